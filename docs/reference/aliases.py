@@ -1,7 +1,7 @@
 """What people type, and where it leads: names of std and of the original that are written in another way here, or are left out.
 
 The rows come from CALLING (`In std, and here`), from DIFFERENCES (`Where each public item of the original is`), and from the two tables
-below. A target is an item (`Vec::push`, `ex_watched::Budget`), an `impl` (`Vec as Write`), a page (`CALLING`), or a heading of one
+below. A target is an item (`Vec::push`, `aa_watched::Budget`), an `impl` (`Vec as Write`), a page (`CALLING`), or a heading of one
 (`CALLING#as-a-slice`); `docs/index --check` sees that each leads somewhere.
 """
 import collections
@@ -35,11 +35,11 @@ ALIASES = [
     ("SmallVec, smallvec, ArrayVec, arrayvec, inline storage", "EXAMPLES#a-small-vector",
      "`InlineVec` and `Fixed`, examples over this library."),
     ("SlotMap, slotmap, slab, generational arena", "EXAMPLES#a-slot-map", "`SlotMap`, an example over this library."),
-    ("HashMap, HashSet, hashbrown, hash map, hash table", "ex_table::Table", "`Table`: its calls, with their contracts."),
+    ("HashMap, HashSet, hashbrown, hash map, hash table", "aa_table::Table", "`Table`: its calls, with their contracts."),
     ("BTreeMap, ordered map, sorted map", "ex_btree::OrderedMap", "`OrderedMap`: its calls, with their contracts."),
-    ("VecDeque, deque, queue, ring buffer", "ex_ring::Ring", "`Ring`: its calls, with their contracts."),
-    ("SmallVec, smallvec, inline storage", "ex_inline::InlineVec", "`InlineVec`: its calls, with their contracts."),
-    ("slotmap, slab", "ex_slots::SlotMap", "`SlotMap`: its calls, with their contracts."),
+    ("VecDeque, deque, queue, ring buffer", "aa_ring::Ring", "`Ring`: its calls, with their contracts."),
+    ("SmallVec, smallvec, inline storage", "aa_inline::InlineVec", "`InlineVec`: its calls, with their contracts."),
+    ("slotmap, slab", "aa_slots::SlotMap", "`SlotMap`: its calls, with their contracts."),
     ("BinaryHeap, heap, priority queue", "CALLING#a-collection-of-your-own",
      "There is none here: build one on the vector or on the block."),
     ("LinkedList, linked list, tree, recursive type", "EXAMPLES#lists-trees-search-trees",
@@ -56,7 +56,7 @@ ALIASES = [
     ("mem::take, take", TABLE, "`mem::replace(v, Vec::new(alloc))`."),
     ("allocator, Allocator, custom allocator, arena, bump, bumpalo, my own allocator, GlobalAlloc", "ALLOCATORS",
      "What the library requires of an allocator, and how to write one."),
-    ("budget, memory limit, quota", "ex_watched::Budget", "An allocator with a limit on the bytes in use."),
+    ("budget, memory limit, quota", "aa_watched::Budget", "An allocator with a limit on the bytes in use."),
     ("pool, free list, recycler, cache", "ALLOCATORS#a-pool", "Allocators that keep freed blocks."),
     ("fuzz, stress test, test an allocator", "ALLOCATORS#the-allocator-test-suite",
      "Random calls over an allocator, with a report or the first fault."),

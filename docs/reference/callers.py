@@ -4,7 +4,7 @@ import functools
 import re
 
 from sources import text_of, type_of
-from words import CRATES, TOP, parted
+from words import CRATES, EXAMPLES, LESSONS, TOP, parted
 
 # A function that calls others: its crate, file, name, first line and text, and what it calls.
 Caller = collections.namedtuple("Caller", "crate file name line text calls")
@@ -18,8 +18,7 @@ TRAITS = {"SliceExt"}
 
 
 def sources():
-    crates = ["guide"] + sorted(it.name for it in (TOP / "crates").glob("ex_*") if not it.name.endswith("_tests"))
-    for crate in [*crates, *TESTS, *LAYERS]:
+    for crate in ["guide", *sorted([*EXAMPLES, *LESSONS]), *TESTS, *LAYERS]:
         for file in sorted((TOP / "crates" / crate / "src").rglob("*.rt")):
             if not SKIPPED & set(file.relative_to(TOP).with_suffix("").parts):
                 yield crate, file

@@ -46,8 +46,8 @@ def example_rows():
     """The rows of EXAMPLES: the first cell, the crate, whether it is the rest of one, and the numbers; a blank counts as 0."""
     for row in re.findall(r"^\| (.*) \|$", text_of(TOP / "docs" / "EXAMPLES.md"), re.M):
         cells = [it.strip() for it in row.split("|")]
-        if len(cells) == 5 and "`ex_" in cells[1]:
-            yield cells[0], re.search(r"ex_\w+", cells[1]).group(), "the rest" in cells[1], [int(it or 0) for it in cells[2:]]
+        if len(cells) == 5 and re.match(r"`(?:aa|ex)_", cells[1]):
+            yield cells[0], re.search(r"(?:aa|ex)_\w+", cells[1]).group(), "the rest" in cells[1], [int(it or 0) for it in cells[2:]]
 
 
 def part_of(title):
@@ -157,7 +157,7 @@ def of_sources():
     yield "docs/ALLOCATORS.md", "has {} wrong allocators. The fault of {} is named, in {} steps. At {} `rt try`", wrong_allocators()
     yield "docs/EXAMPLES.md", "Of the {} lines of code {} are for lists, {} for trees, {} for search trees.", trees
     yield "docs/EXAMPLES.md", "search trees. The tests have {}.", [("lines", lines_of("ex_tests", "src", ["trees"]))]
-    yield "docs/EXAMPLES.md", "twelve for layers and choices, and for the pool, the rack and their shelf {};", [proofs_by_hand("ex_allocators", LAYERS.split())]
+    yield "docs/EXAMPLES.md", "twelve for layers and choices, and for the pool, the rack and their shelf {};", [proofs_by_hand("aa_allocators", LAYERS.split())]
 
 
 def of_types():

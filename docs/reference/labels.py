@@ -10,7 +10,7 @@ import re
 
 from linked import fields_of
 from sources import text_of
-from words import CRATES, TOP, files
+from words import CRATES, EXAMPLES, LESSONS, TOP, files
 
 PAGE = TOP / "CONTRIBUTING.md"
 HEAD = re.compile(r"\| *Label *\| *Says *\|")
@@ -26,8 +26,7 @@ Label = collections.namedtuple("Label", "crate file function name")
 
 def crates():
     """The library's crates, and those of the examples, but none of tests."""
-    examples = sorted(it.name for it in (TOP / "crates").glob("ex_*") if not it.name.endswith("_tests"))
-    return [it for it in [*CRATES, "guide", *examples] if (TOP / "crates" / it / "src").is_dir()]
+    return [it for it in [*CRATES, "guide", *sorted([*EXAMPLES, *LESSONS])] if (TOP / "crates" / it / "src").is_dir()]
 
 
 def labels():

@@ -12,19 +12,21 @@ TOP = pathlib.Path(__file__).resolve().parent.parent.parent
 CRATES = ["aa_raw", "aa_boxed", "aa_vec", "aa_gap", "allocator_api2"]
 # The examples that have pages: crates of their own, each after those that it depends on, with what it is and its part of the documentation.
 COLLECTIONS = {
-    "ex_table": ("A hash table", "EXAMPLES.html#a-hash-table"),
-    "ex_ring": ("A queue with two ends", "EXAMPLES.html#a-ring"),
-    "ex_inline": ("A small vector", "EXAMPLES.html#a-small-vector"),
-    "ex_slots": ("A slot map", "EXAMPLES.html#a-slot-map"),
+    "aa_table": ("A hash table", "EXAMPLES.html#a-hash-table"),
+    "aa_ring": ("A queue with two ends", "EXAMPLES.html#a-ring"),
+    "aa_inline": ("A small vector", "EXAMPLES.html#a-small-vector"),
+    "aa_slots": ("A slot map", "EXAMPLES.html#a-slot-map"),
     "ex_btree": ("An ordered map", "EXAMPLES.html#an-ordered-map"),
     "ex_small": ("An arena, a text builder, a line editor", "EXAMPLES.html#an-arena-by-handles"),
 }
 ALLOCATORS = {
-    "ex_watched": ("A budget, a count", "EXAMPLES.html#allocators"),
-    "ex_allocators": ("A pool, a recycler", "ALLOCATORS.html#a-pool"),
-    "ex_stress": ("The test suite", "ALLOCATORS.html#the-allocator-test-suite"),
+    "aa_watched": ("A budget, a count", "EXAMPLES.html#allocators"),
+    "aa_allocators": ("A pool, a recycler", "ALLOCATORS.html#a-pool"),
+    "aa_allocator_tests": ("The test suite", "ALLOCATORS.html#the-allocator-test-suite"),
 }
 EXAMPLES = {**ALLOCATORS, **COLLECTIONS}
+# The examples that have no page.
+LESSONS = ["ex_trees"]
 HEAD = re.compile(r"^((?:  )*)(?:(abbrev|unfoldable|opaque|irreducible) )?pub (?:(record|data) )?([^\s.:{}()]+)(?=[\s:(]|$)")
 NAME = re.compile(r"[^\s(){},;.\[\]λ]+")
 USE = re.compile(r"(?:pub |ghost )*use Rattle\.(\w+)\.specs\.([\w.]+?)(?:\.\{(.*?)\}| as (\w+))?;?\s*$")

@@ -1,15 +1,15 @@
-//! Measures vectors and boxes over the allocators of `ex_allocators`, beside the global allocator.
+//! Measures vectors and boxes over the allocators of `aa_allocators`, beside the global allocator.
 //!
 //! The times show what each layer costs. Pushes are measured beside pushes onto the toolchain's
 //! vector, which grows in place.
 #![tactic(auto)]
 
+use aa_allocators::budget::Budget;
+use aa_allocators::counting::Counting;
+use aa_allocators::pool::Pool;
+use aa_allocators::recycler::Recycler;
 use allocator_api2::boxed::Box;
 use allocator_api2::vec::Vec;
-use ex_allocators::budget::Budget;
-use ex_allocators::counting::Counting;
-use ex_allocators::pool::Pool;
-use ex_allocators::recycler::Recycler;
 use std::alloc::{Allocator, Global};
 use std::io::{Error, ErrorKind};
 use std::mem::size_of;

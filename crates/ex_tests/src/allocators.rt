@@ -1,9 +1,9 @@
 //! The budget, the count and the pool. No clause says what their cells hold.
+use aa_allocators::budget::Budget;
+use aa_allocators::counting::{Counting, Counts};
+use aa_allocators::pool::Pool;
 use allocator_api2::boxed::Box;
 use allocator_api2::vec::Vec;
-use ex_allocators::budget::Budget;
-use ex_allocators::counting::{Counting, Counts};
-use ex_allocators::pool::Pool;
 use std::alloc::{Allocator, Global};
 
 /// Returns whether a box for the item can be allocated. It is freed at once.

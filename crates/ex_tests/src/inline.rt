@@ -1,8 +1,8 @@
 //! The small vector.
 use crate::memory::{End, end_by, end_of, is_all_freed};
+use aa_inline::inline::InlineVec;
 use allocator_api2::collections::TryReserveError;
 use allocator_api2::vec::Vec;
-use ex_inline::inline::InlineVec;
 use std::alloc::{AllocError, Global};
 use std::cell::Cell;
 use std::cmp::Ordering;

@@ -1,19 +1,19 @@
 //! Layers and choices, as an author of allocators writes them: without a proof.
 ghost use Rattle.std.specs.Prelude.{◌+◌, max, nat_eq};
 
-use ex_allocators::choice::{Choice, Chooser};
-use ex_allocators::fallback::Fallback;
-use ex_allocators::guarded::Guarded;
-use ex_allocators::layered::{Layer, Layered};
-use ex_allocators::pool::Pool;
-use ex_allocators::recycler::Recycler;
-use ex_allocators::segregated::Segregated;
-use ex_allocators::spaced::Spaced;
-use ex_allocators::zeroing::Zeroing;
-use ex_stress::below::{Below, count_below};
-use ex_stress::config::Config;
-use ex_stress::stress::stress_with_clone;
-use ex_watched::budget::Budget;
+use aa_allocator_tests::below::{Below, count_below};
+use aa_allocator_tests::config::Config;
+use aa_allocator_tests::stress::stress_with_clone;
+use aa_allocators::choice::{Choice, Chooser};
+use aa_allocators::fallback::Fallback;
+use aa_allocators::guarded::Guarded;
+use aa_allocators::layered::{Layer, Layered};
+use aa_allocators::pool::Pool;
+use aa_allocators::recycler::Recycler;
+use aa_allocators::segregated::Segregated;
+use aa_allocators::spaced::Spaced;
+use aa_allocators::zeroing::Zeroing;
+use aa_watched::budget::Budget;
 use std::alloc::{Allocator, Global};
 use test_allocators::Faulty;
 

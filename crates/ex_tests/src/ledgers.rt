@@ -1,7 +1,7 @@
 //! A budget's ledger, by itself and as a purse shares it.
-use ex_watched::budget::Purse;
-use ex_watched::ledger::Ledger;
-use ex_watched::watched::Watch;
+use aa_watched::budget::Purse;
+use aa_watched::ledger::Ledger;
+use aa_watched::watched::Watch;
 
 // The ledger of 48 bytes after 40 were allocated, 9 more failed, and 16 were deallocated.
 fn used() -> (bool, bool, Ledger) {

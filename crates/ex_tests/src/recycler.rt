@@ -1,6 +1,6 @@
 //! The recycler.
 use crate::allocators::{Step, go, has_room, pushes};
-use ex_allocators::recycler::Recycler;
+use aa_allocators::recycler::Recycler;
 use std::alloc::Global;
 use test_allocators::Faulty;
 

@@ -1,7 +1,7 @@
 //! The ring.
+use aa_ring::ring::Ring;
 use allocator_api2::collections::{TryReserveError, TryReserveErrorKind};
 use allocator_api2::vec::Vec;
-use ex_ring::ring::Ring;
 use std::alloc::{AllocError, Global};
 use std::default::{Emptied, MadeWith};
 use std::fmt::Debug;

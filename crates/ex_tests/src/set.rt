@@ -1,6 +1,6 @@
 //! The hash set.
+use aa_table::set::Set;
 use allocator_api2::collections::TryReserveErrorKind;
-use ex_table::set::Set;
 use std::alloc::{AllocError, Global};
 use std::default::{Emptied, MadeWith};
 use std::hash::{BuildHasherDefault, FoldHasher};

@@ -1,7 +1,7 @@
 //! The slot map.
+use aa_slots::cursor::CursorMut;
+use aa_slots::map::{Key, SlotMap};
 use allocator_api2::collections::TryReserveErrorKind;
-use ex_slots::cursor::CursorMut;
-use ex_slots::map::{Key, SlotMap};
 use std::alloc::{AllocError, Global};
 use std::default::{Emptied, MadeWith};
 use std::mem::forget;

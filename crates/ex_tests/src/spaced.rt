@@ -1,5 +1,5 @@
-use ex_allocators::spaced::Spaced;
-use ex_watched::counting::Counting;
+use aa_allocators::spaced::Spaced;
+use aa_watched::counting::Counting;
 use std::alloc::Global;
 
 // Returns how many bytes of the inner allocator are allocated for capacity for four numbers, of

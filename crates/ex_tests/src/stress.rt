@@ -1,17 +1,17 @@
-//! The allocator test suite, on the toolchain's allocator and on those of `ex_watched` and
-//! `ex_allocators`.
-use ex_allocators::pool::Pool;
-use ex_allocators::recycler::Recycler;
-use ex_stress::below::{Below, count_below};
-use ex_stress::config::Config;
-use ex_stress::fault::{Broken, Fault};
-use ex_stress::random::Random;
-use ex_stress::reach::Report;
-use ex_stress::script::{Replay, Script, Step};
-use ex_stress::stress::{replay, stress, stress_over_two, stress_with_clone};
-use ex_watched::budget::Budget;
-use ex_watched::counting::Counting;
-use ex_watched::watched::{Watch, Watched};
+//! The allocator test suite, on the toolchain's allocator and on those of `aa_watched` and
+//! `aa_allocators`.
+use aa_allocator_tests::below::{Below, count_below};
+use aa_allocator_tests::config::Config;
+use aa_allocator_tests::fault::{Broken, Fault};
+use aa_allocator_tests::random::Random;
+use aa_allocator_tests::reach::Report;
+use aa_allocator_tests::script::{Replay, Script, Step};
+use aa_allocator_tests::stress::{replay, stress, stress_over_two, stress_with_clone};
+use aa_allocators::pool::Pool;
+use aa_allocators::recycler::Recycler;
+use aa_watched::budget::Budget;
+use aa_watched::counting::Counting;
+use aa_watched::watched::{Watch, Watched};
 use std::alloc::{Allocator, Global};
 use std::cell::Cell;
 

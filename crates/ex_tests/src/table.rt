@@ -1,9 +1,9 @@
 //! The hash table.
+use aa_table::table::entry::Entry;
+use aa_table::table::{Table, TryInsertError};
 use allocator_api2::boxed::BoxedText;
 use allocator_api2::collections::TryReserveErrorKind;
 use allocator_api2::vec::Vec;
-use ex_table::table::entry::Entry;
-use ex_table::table::{Table, TryInsertError};
 use std::alloc::{AllocError, Global};
 use std::default::{Emptied, MadeWith};
 use std::hash::{BuildHasher, BuildHasherDefault, FoldHasher, Hasher};

@@ -9,4 +9,4 @@ pub mod counted;
 /// An allocator for tests that fails every request.
 pub mod failing;
 
-pub use ex_watched::faulty::Faulty;
+pub use aa_watched::faulty::Faulty;

@@ -1,17 +1,17 @@
 //! Allocators over one that counts: what they pass on, and that it is freed.
 use crate::allocators::has_room;
 use crate::memory::is_all_freed;
-use ex_allocators::fallback::Fallback;
-use ex_allocators::guarded::Guarded;
-use ex_allocators::pool::Pool;
-use ex_allocators::rack::Rack;
-use ex_allocators::recycler::Recycler;
-use ex_allocators::rounded::Rounded;
-use ex_allocators::segregated::Segregated;
-use ex_allocators::spaced::Spaced;
-use ex_allocators::zeroing::Zeroing;
-use ex_watched::budget::Budget;
-use ex_watched::counting::Counting;
+use aa_allocators::fallback::Fallback;
+use aa_allocators::guarded::Guarded;
+use aa_allocators::pool::Pool;
+use aa_allocators::rack::Rack;
+use aa_allocators::recycler::Recycler;
+use aa_allocators::rounded::Rounded;
+use aa_allocators::segregated::Segregated;
+use aa_allocators::spaced::Spaced;
+use aa_allocators::zeroing::Zeroing;
+use aa_watched::budget::Budget;
+use aa_watched::counting::Counting;
 use std::alloc::{Allocator, Global};
 use test_allocators::Faulty;
 

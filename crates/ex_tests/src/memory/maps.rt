@@ -1,8 +1,8 @@
 //! The slot map, the ordered map and its leaves.
 use crate::memory::{End, end_by, end_of, is_all_freed};
+use aa_slots::map::{Key, SlotMap};
 use ex_btree::leaf::Leaf;
 use ex_btree::map::OrderedMap;
-use ex_slots::map::{Key, SlotMap};
 use std::alloc::Global;
 use std::cell::Cell;
 use test_allocators::Faulty;

@@ -1,6 +1,6 @@
 //! The ring.
 use crate::memory::is_all_freed;
-use ex_ring::ring::Ring;
+use aa_ring::ring::Ring;
 use std::alloc::Global;
 use std::cell::Cell;
 use test_allocators::Faulty;

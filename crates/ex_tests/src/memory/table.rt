@@ -1,7 +1,7 @@
 //! The hash table, with keys that have memory of their own.
 use crate::memory::{End, end_by, end_of, is_all_freed};
+use aa_table::table::Table;
 use allocator_api2::boxed::BoxedText;
-use ex_table::table::Table;
 use std::alloc::Global;
 use std::cell::Cell;
 use std::hash::{BuildHasherDefault, FoldHasher};

@@ -1,11 +1,11 @@
 //! The cases over this repository's table, ring and small vector.
 
 use crate::checksum::checksum_from;
+use aa_inline::inline::InlineVec;
+use aa_ring::ring::Ring;
+use aa_table::table::Table;
 use allocator_api2::vec::Vec;
 use benchcases::case::Collection;
-use ex_inline::inline::InlineVec;
-use ex_ring::ring::Ring;
-use ex_table::table::Table;
 use std::alloc::Global;
 use std::hash::{BuildHasherDefault, FoldHasher};
 

@@ -1,5 +1,5 @@
 -- The result is `Err`, whatever is requested. Assumes `Logic`.
-use Rattle.ex_watched.proofs.Walk.{[], ◌∷◌, refl, w64, false, Err, Answer, answer_val, Answer-typed, Answer-err, proved, ftrue, flft, alloc_all, pass_all, free_all, look_at, get, sets, ‵, raw, ◌⊛◌, ◌$◌, ◌∵◌, !, qed, move, keep, use0, split, done, suffices, group, agg, lit, no_more, and_then, returns, enter, uint_vals, uint_Tells, owns, shr_vals, types_at, nothing, walk_of, ends_at, dropped, gone, trues, spent}
+use Rattle.aa_watched.proofs.Walk.{[], ◌∷◌, refl, w64, false, Err, Answer, answer_val, Answer-typed, Answer-err, proved, ftrue, flft, alloc_all, pass_all, free_all, look_at, get, sets, ‵, raw, ◌⊛◌, ◌$◌, ◌∵◌, !, qed, move, keep, use0, split, done, suffices, group, agg, lit, no_more, and_then, returns, enter, uint_vals, uint_Tells, owns, shr_vals, types_at, nothing, walk_of, ends_at, dropped, gone, trues, spent}
 use Rattle.test_allocators.specs.contracts.failing.FailingAllocator.allocate as F
 use Rattle.test_allocators.proofs.failing.FailingAllocator.allocate.Statement.{statement}
 use Rattle.test_allocators.proofs.failing.FailingAllocator.allocate.Code as code

@@ -1,5 +1,5 @@
 -- No block is the allocator's, so the right to free one is a contradiction. Assumes `Logic`.
-use Rattle.ex_watched.proofs.Walk.{◌≡◌, [], ◌∷◌, w64, proved, fsep, ffalse, never_e, fact, size, align, capped, ‵, raw, ◌⊛◌, ◌$◌, ◌∵◌, !, qed, drop, split, fsplit, by, uint_vals, uint_Tells, room_for, rawptr_vals, rawptr_Tells, shr_vals, on_entry, dropped, gone}
+use Rattle.aa_watched.proofs.Walk.{◌≡◌, [], ◌∷◌, w64, proved, fsep, ffalse, never_e, fact, size, align, capped, ‵, raw, ◌⊛◌, ◌$◌, ◌∵◌, !, qed, drop, split, fsplit, by, uint_vals, uint_Tells, room_for, rawptr_vals, rawptr_Tells, shr_vals, on_entry, dropped, gone}
 use Rattle.test_allocators.specs.contracts.failing.FailingAllocator.deallocate as F
 use Rattle.test_allocators.proofs.failing.FailingAllocator.deallocate.Statement.{statement}
 use Rattle.test_allocators.proofs.failing.FailingAllocator.deallocate.Code as code

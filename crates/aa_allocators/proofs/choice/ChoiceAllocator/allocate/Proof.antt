@@ -1,0 +1,63 @@
+-- The chooser is called, and the request is passed on. Assumes `Logic`.
+use Rattle.aa_allocators.proofs.Choosing.{◌≡◌, ℕ, Bool, [], ◌∷◌, refl, w64, true, false, Ok, Err, block_if_ok, Al, seen, token, Answer, answer_val, Answer-typed, Answer-Ok, Answer-err, Takes, at_takes, Answered, Takes-goes, Takes-gives, answers, after, proved, inst_fn, Fn, Body, Val, ftrue, flft, ent, emp, ◌⊑◌, ⊑_trans, fact, tables, size, align, capped, Env, alloc_all, pass_all, free_all, look_at, get, through, sets, lands_as, env, ‵, raw, ◌⊛◌, later, ◌$◌, ◌∵◌, !, qed, move, keep, use0, use1, use2, split, split3, join, fsplit, fjoin, await, done, prop, at_ret, Sq, suffices, group, rewrite, sem, stop, fld, addr, no_more, and_then, first, branches, skips, exec, returns, returns_within, enter, uint_vals, uint_Tells, owns, block_ptr, shr_vals, types_at, nothing, heard, calls_at, framed, walk_of, ends_at, inner_of, dropped, gone, trues, spent, Ch, chooser_at, generics, second_of, chooser_of, reaches, Chooses, at_call, calls, told, at_choice, is_true, is_false, chosen_right, right_of}
+use Rattle.aa_allocators.specs.contracts.choice.ChoiceAllocator.allocate as F
+use Rattle.aa_allocators.proofs.choice.ChoiceAllocator.allocate.Statement.{statement}
+use Rattle.aa_allocators.proofs.choice.ChoiceAllocator.allocate.Code as code
+
+pub allocate_spec : {M : Type 1} → statement M
+allocate_spec 𝓤 𝓛 𝓜 𝓡 wired B C P LB LC LP g d gc dc gp dp d' dc' dp' inner inner' asked drops drops' drops'' =
+    let Z : Al = record { row = B; laws = LB; g = g; d = d; drops = d' } in let X : Al = record { row = C; laws = LC; g = gc; d = dc; drops = dc' } in
+    let Y : Ch = record { row = P; laws = LP; g = gp; d = dp; drops = dp' } in
+    let E = F.ended B C P g d gc dc gp dp d' dc' dp' in let c = F.clauses B C P g d gc dc gp dp d' dc' dp' 𝓛 𝓜.mem 𝓡.returns in let hs = dropped E.signature.params E.kept in
+    let Wk = walk_of 𝓛 E hs c in let 𝓣 = tables 𝓤 𝓛.H 𝓜 𝓡 𝓡.env in let fn : Fn = inst_fn (generics Z X Y) code.function in
+    proved 𝓛 E hs c 𝓜 𝓡 ((λ κs x f vs ok. gone 𝓛), ((λ κs x f vs ok. gone 𝓛), ((λ κs x f vs ok. gone 𝓛), tt))) (F.Key.name (generics Z X Y)) fn (code.unfolded 𝓤 𝓛.H 𝓜 𝓡 wired (B, (C, (P, tt))) d dc dp d' dc' dp')
+    (λ κs. (shr_vals, (uint_vals w64, (uint_vals w64, tt)))) (λ κs. ((λ r vs is. is.0), (uint_Tells w64, (uint_Tells w64, tt)))) (λ κs qs bounds a τ are.
+    let κ = κs.0 in let q = qs.0 in let r = a.0 in let n = a.1.0 in let al = a.1.1.0 in let n_fits = are.1.0.1 in let al_fits = are.1.1.0.1 in
+    let heap : B.Denot = r.now.first in let at = inner_of Z r.ref_ptr in let heap' : C.Denot = r.now.second in let at' = second_of Z X Y r.ref_ptr in
+    let plan : P.Denot = r.now.chooser in let spot = chooser_of Z X Y r.ref_ptr in
+    let y : Wk.Ghost = ((κs, qs, bounds, a, (shr_vals r, (uint_vals w64 n, (uint_vals w64 al, tt)))), τ) in
+    let Fits : Type 0 = (capped (size τ) ≡ n) × (capped (align τ) ≡ al) in
+    let is_first = gp.is_first plan in let right = chosen_right is_first (token Z heap) (token X heap') in
+    let Q = Chooses Y 𝓛 𝓜.mem 𝓡.returns in let ask : Q.Ghost = at_call Y 𝓛 𝓜.mem 𝓡.returns κ q plan spot n al in
+    let T = Takes Z 𝓛 𝓜.mem 𝓡.returns in let take : T.Ghost = at_takes Z 𝓛 𝓜.mem 𝓡.returns κ q at heap n al τ in
+    let U = Takes X 𝓛 𝓜.mem 𝓡.returns in let take' : U.Ghost = at_takes X 𝓛 𝓜.mem 𝓡.returns κ q at' heap' n al τ in
+    let Right = λ (x : Bool) (b o : ℕ). ‵ (right_of x (token Z heap) (token X heap') τ (block_ptr b o)) in
+    let leaves : (x : Answer.Denot) (v : Val) → ent 𝓤 (emp 𝓤) (sem 𝓛 (Answer.own_val x (v ∷ [])))
+    → Sq 𝓛 (‵ (block_if_ok right τ x) ∷ ‵ (flft κ q) ∷ (‵ (flft κs.1.0 qs.1.0) ⊛ ‵ (flft κs.1.1.0 qs.1.1.0) ⊛ ‵ (flft κs.1.1.1.0 qs.1.1.1.0) ⊛ ‵ ftrue) ∷ []) (prop (Wk.post y v)) = λ x v made.
+    suffices ! _ (ends_at 𝓛 E hs c y v x (tt, (tt, (tt, tt))) (tt, (tt, (tt, tt)))) $
+    move ! (1 ∷ 2 ∷ []) $ join ! $ use0 𝓛 (‵ (Answer.own_val x (v ∷ []))) made $ use0 𝓛 (‵ (trues 𝓛 3)) (spent 𝓛 3) $ move ! (2 ∷ 0 ∷ 1 ∷ []) $ group ! 3 $ done ! in
+    qed 𝓛 (((‵ (flft κ q) ⊛ ‵ (flft κs.1.0 qs.1.0) ⊛ ‵ (flft κs.1.1.0 qs.1.1.0) ⊛ ‵ (flft κs.1.1.1.0 qs.1.1.1.0) ⊛ ‵ ftrue) ⊛ ‵ (owns (types_at E.signature.params κs) a y.0.4))
+    ∷ (raw (fact 𝓤 (κs.1.0 ⊑ B.lives)) ⊛ raw (fact 𝓤 (κs.1.1.0 ⊑ C.lives)) ⊛ raw (fact 𝓤 (κs.1.1.1.0 ⊑ P.lives)) ⊛ raw (fact 𝓤 Fits)) ∷ []) ∵
+    move ! (1 ∷ []) $ split ! $ heard ! _ (λ lives. split3 ! $ heard ! _ (λ lives'. heard ! _ (λ lives''. let lasts = ⊑_trans κ κs.1.1.1.0 P.lives bounds.1.1.0 lives'' in heard ! Fits (λ fits.
+    split ! $ split ! $ move ! (2 ∷ []) $ fsplit ! $
+    use1 𝓛 (‵ (seen Z κ at heap) ⊛ ‵ (seen X κ at' heap') ⊛ ‵ (chooser_at Y κ plan spot)) (reaches Z X Y 𝓛 κ r) $ split3 ! $ keep ! (2 ∷ 4 ∷ 0 ∷ 1 ∷ 5 ∷ []) $
+    -- [the `&` to the chooser; its token; the `&`s to the two allocators; the other tokens]
+    enter ! _ _ _ _ _ $ alloc_all ! (λ l. pass_all ! refl ((tt, tt), ((tt, record { fits = n_fits }), ((tt, record { fits = al_fits }), tt))) $
+    let En : Env 𝓤 𝓛.H = env fn.locals l in let body : Body = fn.body in
+    sets ! (addr ! (through ! refl (fld ! refl (stop !)))) refl (tt, tt) $
+    use2 𝓛 (raw (Q.pre ask)) (calls Y 𝓛 𝓜.mem 𝓡.returns κ q plan spot n al lasts n_fits al_fits) $
+    calls_at ! (framed 𝓤 𝓛.H 𝓜 𝓣) Q (asked.is_first dp') ask (and_then ! (get ! refl) (and_then ! (get ! refl) (and_then ! (get ! refl) (no_more !)))) (λ v.
+    told 𝓛 κ q v (λ x. x ≡ is_first n al) _ ! tt (λ x e is. lands_as ! e refl (tt, tt) $
+    -- [the token; the `&`s to the two allocators; the other tokens]
+    first ! $ branches ! (get ! refl)
+    (λ yes. sets ! (addr ! (through ! refl (fld ! refl (stop !)))) refl (tt, tt) $ move ! (1 ∷ 0 ∷ []) $
+    use2 𝓛 (raw (T.pre take)) (Takes-goes Z 𝓛 𝓜.mem 𝓡.returns κ q at heap (⊑_trans κ κs.1.0 B.lives bounds.0 lives) n al τ fits.0 fits.1 n_fits al_fits) $
+    calls_at ! (framed 𝓤 𝓛.H 𝓜 𝓣) T (inner.allocate d') take (and_then ! (get ! refl) (and_then ! (get ! refl) (and_then ! (get ! refl) (no_more !)))) (λ w.
+    use1 𝓛 (later (raw (Answered Z 𝓛 𝓜.mem 𝓡.returns heap τ w) ⊛ ‵ (flft κ q))) (Takes-gives Z 𝓛 𝓜.mem 𝓡.returns κ q at heap n al τ w) $ await ! tt $ split ! $
+    answers Z ! 𝓜.mem 𝓡.returns heap τ w
+    (λ b o granted. lands_as ! granted refl (Answer-typed true b o) $ returns_within ! (Wk.post y) refl (look_at ! 0 refl) $ free_all ! refl $ keep ! (1 ∷ 0 ∷ 2 ∷ 4 ∷ []) $
+    rewrite ! 0 (λ (z : Bool). Right z b o) (at_choice is_first τ n al x true fits (is_true x yes) is) refl $ move ! (1 ∷ 0 ∷ []) $ fjoin ! $
+    leaves (Ok (block_ptr b o)) (answer_val true b o) (Answer-Ok 𝓛 b o))
+    (λ refused. lands_as ! refused refl (Answer-typed false 0 0) $ returns_within ! (Wk.post y) refl (look_at ! 0 refl) $ free_all ! refl $ keep ! (0 ∷ 2 ∷ []) $
+    nothing ! $ leaves (Err (record {})) (answer_val false 0 0) (Answer-err 𝓛))))
+    (λ no. skips ! $ exec ! 𝓣.C 𝓣.Λ En (after 3 body) (at_ret En (Wk.post y)) $
+    sets ! (addr ! (through ! refl (fld ! refl (stop !)))) refl (tt, tt) $ move ! (2 ∷ 0 ∷ []) $
+    use2 𝓛 (raw (U.pre take')) (Takes-goes X 𝓛 𝓜.mem 𝓡.returns κ q at' heap' (⊑_trans κ κs.1.1.0 C.lives bounds.1.0 lives') n al τ fits.0 fits.1 n_fits al_fits) $
+    calls_at ! (framed 𝓤 𝓛.H 𝓜 𝓣) U (inner'.allocate dc') take' (and_then ! (get ! refl) (and_then ! (get ! refl) (and_then ! (get ! refl) (no_more !)))) (λ w.
+    use1 𝓛 (later (raw (Answered X 𝓛 𝓜.mem 𝓡.returns heap' τ w) ⊛ ‵ (flft κ q))) (Takes-gives X 𝓛 𝓜.mem 𝓡.returns κ q at' heap' n al τ w) $ await ! tt $ split ! $
+    answers X ! 𝓜.mem 𝓡.returns heap' τ w
+    (λ b o granted. lands_as ! granted refl (Answer-typed true b o) $ returns ! (look_at ! 0 refl) $ free_all ! refl $ keep ! (1 ∷ 0 ∷ 2 ∷ 4 ∷ []) $
+    rewrite ! 0 (λ (z : Bool). Right z b o) (at_choice is_first τ n al x false fits (is_false x no) is) refl $ move ! (1 ∷ 0 ∷ []) $ fjoin ! $
+    leaves (Ok (block_ptr b o)) (answer_val true b o) (Answer-Ok 𝓛 b o))
+    (λ refused. lands_as ! refused refl (Answer-typed false 0 0) $ returns ! (look_at ! 0 refl) $ free_all ! refl $ keep ! (0 ∷ 2 ∷ []) $
+    nothing ! $ leaves (Err (record {})) (answer_val false 0 0) (Answer-err 𝓛))))))))))))

@@ -1,0 +1,19 @@
+use Rattle.aa_slots.proofs.Common.{ap, arith, length, sym, ◌∙◌}
+use Rattle.allocator_api2.specs.Block.{Block}
+use Rattle.aa_slots.proofs.Remaining.{take-next, take-next-is}
+use Rattle.aa_slots.proofs.into_iter.IntoIterIterator.next.Goals as goal
+
+pub invariant_of-self : goal.invariant_of-self
+invariant_of-self g c =
+    let key = c.in_ok-key.key in let f = c.in_ok-key.ensures in
+    take-next-is c.self.invariant key c.take.result f.within (rw c.slots_in.ensures at f.held) c.take.ensures.value (rw c.slots_in.ensures at f.first) _ (ap (λ (b : Block _ _). b.places) c.take.ensures.after)
+
+pub returns-clause-steps : goal.returns-clause-steps
+returns-clause-steps g c =
+    let key = c.in_ok-key.key in let f = c.in_ok-key.ensures in
+    sym c.self.view_is ∙ take-next c.self.invariant key c.take.result f.within (rw c.slots_in.ensures at f.held) c.take.ensures.value (rw c.slots_in.ensures at f.first) _ (ap (λ (b : Block _ _). b.places) c.take.ensures.after)
+
+pub returns-clause-goes : goal.returns-clause-goes
+returns-clause-goes g c =
+    let one_less = ap length (returns-clause-steps g c) in
+    record { on = λ h. (tt, tt, omega (arith, one_less)); keeps = tt; rests = λ h. tt }

@@ -1,0 +1,5 @@
+use Rattle.aa_slots.proofs.Remaining.{all-are}
+use Rattle.aa_slots.proofs.iter.Iter.over.Goals as goal
+
+pub invariant_of-result : goal.invariant_of-result
+invariant_of-result g c = all-are _ _ _ c.requires.held c.requires.count

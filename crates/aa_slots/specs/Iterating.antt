@@ -1,0 +1,19 @@
+-- The pairs that an iterator over a slot map yields.
+use Rattle.std.specs.Borrow.{Bor}
+use Rattle.std.specs.Iterator.{YieldsFirstBy, YieldsLastBy}
+use Rattle.std.specs.Iterator.Runs.{EveryRun, ItemsMapTo, ItemsMapToReversed}
+use Rattle.aa_slots.specs.declared.map.Key.{Key}
+
+-- an item of the iterator as a key and the value that it refers to
+abbrev pub pair_of : {T : Type 0} → Key × Bor T → Key × T
+pair_of item = (item.0, item.1.now)
+
+-- each run of `next` yields the pairs that remained, in order
+abbrev pub YieldsPairsInOrder : (T : Type 0) → Type 0
+YieldsPairsInOrder T = EveryRun (YieldsFirstBy (pair_of {T = T}) (λ rest. rest)) (λ p.
+    ItemsMapTo p pair_of p.from)
+
+-- each run of `next_back` yields them in reverse
+abbrev pub YieldsPairsInReverse : (T : Type 0) → Type 0
+YieldsPairsInReverse T = EveryRun (YieldsLastBy (pair_of {T = T}) (λ rest. rest)) (λ p.
+    ItemsMapToReversed p pair_of p.from)

@@ -1,0 +1,224 @@
+//! Growing, copying and dropping the two blocks of a slot map.
+ghost use Rattle.std.specs.Prelude.{◌≡◌, ◌<◌, ◌≤◌, [], length, IfErr, IfOk, OnErr, OnOk, IsOk, IsTrue};
+ghost use Rattle.std.specs.Mem.{type_size};
+ghost use Rattle.allocator_api2.specs.Errors.{ClonesFail, IsErrorFor};
+ghost use Rattle.aa_slots.specs.Inside.{capacity_of, seen, states_of, AreClones, AreHeld, AreHeldBetween};
+ghost use Rattle.allocator_api2.specs.declared.collections.TryReserveErrorKind.TheVariants.{AllocError};
+
+use crate::slots::{Slot, State, slots_in};
+use allocator_api2::collections::{TryReserveError, TryReserveErrorKind};
+use allocator_api2::raw_vec::RawVec;
+use allocator_api2::vec::Vec;
+use std::alloc::Allocator;
+
+/// Returns the `AllocError` of a failed allocation for `capacity` values.
+pub fn alloc_error(capacity: usize) -> TryReserveError
+    ensures { result.kind ≡ AllocError capacity }
+{
+    TryReserveErrorKind::AllocError { capacity }.into()
+}
+
+/// Drops the values of the slots from `from` on and before `end`, one by one.
+pub fn drop_between<T: Drop, A: Allocator>(
+    slots: &[Slot],
+    values: &mut RawVec<((), T), A>,
+    from: usize,
+    end: usize,
+)
+    requires within { end ≤ length slots.now }
+    requires held { AreHeldBetween slots.now values.old.places from end }
+    ensures { length values.new.places ≡ length values.old.places }
+{
+    'each: for index in from..end {
+        if let State::Held(_) = slots[index].state() {
+            drop(values.take(index));
+        }
+    }
+}
+
+// Moves all values to other places of the same index.
+fn move_all<T, A: Allocator>(
+    slots: &[Slot],
+    from: &mut RawVec<((), T), A>,
+    to: &mut RawVec<((), T), A>,
+)
+    requires held { AreHeld slots.now from.old.places }
+    requires room { length slots.now ≤ length to.old.places }
+    ensures held { AreHeld slots.now to.new.places }
+    ensures moved { seen slots.now to.new.places ≡ seen slots.now from.old.places }
+    ensures room { length to.new.places ≡ length to.old.places }
+{
+    'each: for index in 0..slots.len() {
+        if let State::Held(_) = slots[index].state() {
+            to.put(index, from.take(index));
+        }
+    }
+}
+
+// Returns a block with capacity for `capacity` elements, allocated by a clone of `alloc`.
+//
+// An `AllocError` has the number `capacity`.
+fn block_for<E, A: Allocator + Clone>(
+    alloc: &A,
+    capacity: usize,
+) -> Result<RawVec<E, A>, TryReserveError>
+    ensures room { IfOk result (λ b. capacity ≤ length b.places) }
+    ensures fits { A.is_infallible alloc.now → capacity ≡ 0 → IsOk result }
+    ensures error { IfErr result
+        (ClonesFail (A.is_infallible alloc.now) capacity (type_size E.row)) }
+{
+    let Ok(own) = alloc.clone() else {
+        return Err(alloc_error(capacity));
+    };
+    let made = RawVec::with_capacity_in(capacity, own)?;
+    made.prove_capacity_bounds();
+    Ok(made)
+}
+
+// Reserves places for exactly `capacity` values, unless there are as many. Moves the values if it
+// allocates.
+fn reserve_places<T, A: Allocator + Clone>(
+    slots: &[Slot],
+    values: &mut RawVec<((), T), A>,
+    capacity: usize,
+) -> Result<(), TryReserveError>
+    requires held { AreHeld slots.now values.old.places }
+    requires more { length slots.now ≤ capacity }
+    ensures room { OnOk result (capacity ≤ length values.new.places) }
+    ensures held { AreHeld slots.now values.new.places }
+    ensures moved { seen slots.now values.new.places ≡ seen slots.now values.old.places }
+    ensures error { IfErr result (λ e. IsErrorFor e capacity) }
+    ensures unchanged { OnErr result (values.new ≡ values.old) }
+{
+    if capacity <= values.capacity() {
+        return Ok(());
+    }
+    let mut fresh = block_for(values.allocator(), capacity)?;
+    move_all(slots, values, &mut fresh);
+    *values = fresh;
+    Ok(())
+}
+
+// Reserves exactly `capacity` slots, more than there is memory for.
+fn reserve_slots<A: Allocator + Clone>(
+    slots: &mut Option<Vec<Slot, A>>,
+    alloc: &A,
+    capacity: usize,
+) -> Result<(), TryReserveError>
+    requires within { length (states_of slots.old) ≤ capacity_of slots.old }
+    requires more { capacity_of slots.old < capacity }
+    ensures slots { states_of slots.new ≡ states_of slots.old }
+    ensures room { OnOk result (capacity_of slots.new ≡ capacity) }
+    ensures error { IfErr result (ClonesFail (A.is_infallible alloc.now) capacity 8) }
+    ensures unchanged { OnErr result (slots.new ≡ slots.old) }
+{
+    match slots {
+        Some(made) => made.try_reserve_exact(capacity - made.len()),
+        None => {
+            let Ok(own) = alloc.clone() else {
+                return Err(alloc_error(capacity));
+            };
+            *slots = Some(Vec::with_capacity_in(capacity, own)?);
+            Ok(())
+        }
+    }
+}
+
+/// Reserves memory for exactly `capacity` slots with their values, more than there is memory for.
+///
+/// If only the block of values grows before an allocation fails, the number of slots for which
+/// there is memory does not change.
+///
+/// # Errors
+/// `CapacityOverflow` if the bytes exceed `isize::MAX`; `AllocError` with the number `capacity`.
+#[cold]
+#[inline(never)]
+pub fn reserve<T, A: Allocator + Clone>(
+    slots: &mut Option<Vec<Slot, A>>,
+    values: &mut RawVec<((), T), A>,
+    capacity: usize,
+) -> Result<(), TryReserveError>
+    requires held { AreHeld (states_of slots.old) values.old.places }
+    requires within { length (states_of slots.old) ≤ capacity_of slots.old }
+    requires places { capacity_of slots.old ≤ length values.old.places }
+    requires more { capacity_of slots.old < capacity }
+
+    // The slots and their values are unchanged, each value in its place.
+    ensures slots { states_of slots.new ≡ states_of slots.old }
+    ensures held { AreHeld (states_of slots.new) values.new.places }
+    ensures values { seen (states_of slots.new) values.new.places
+        ≡ seen (states_of slots.old) values.old.places }
+
+    // There is memory for more slots on success, and as before on an error.
+    ensures places { capacity_of slots.new ≤ length values.new.places }
+    ensures capacity { OnOk result (capacity_of slots.new ≡ capacity) }
+    ensures error { IfErr result (λ e. IsErrorFor e capacity) }
+    ensures unchanged { OnErr result (capacity_of slots.new ≡ capacity_of slots.old) }
+{
+    reserve_places(slots_in(slots), values, capacity)?;
+    reserve_slots(slots, values.allocator(), capacity)
+}
+
+/// Returns a copy of the slots, over a clone of the allocator, with capacity for no more.
+pub fn clone_slots<A: Allocator + Clone>(
+    slots: &Option<Vec<Slot, A>>,
+) -> Result<Option<Vec<Slot, A>>, TryReserveError>
+    ensures slots { IfOk result (λ copy. states_of copy ≡ states_of slots.now) }
+    ensures capacity { IfOk result (λ copy. capacity_of copy ≡ length (states_of slots.now)) }
+    ensures fits { ((a : A) → A.is_infallible a) → states_of slots.now ≡ [] → IsOk result }
+    ensures error { IfErr result
+        (ClonesFail ((a : A) → A.is_infallible a) (length (states_of slots.now)) 8) }
+{
+    match slots {
+        Some(made) => Ok(Some(made.clone()?)),
+        None => Ok(None),
+    }
+}
+
+// Writes a clone of each value from `from` into the place of the same index in `to`.
+//
+// If a clone fails, drops those made and returns `false`.
+fn put_clones<T: Clone + Drop, A: Allocator>(
+    slots: &[Slot],
+    from: &RawVec<((), T), A>,
+    to: &mut RawVec<((), T), A>,
+) -> bool
+    requires held { AreHeld slots.now from.now.places }
+    requires room { length slots.now ≤ length to.old.places }
+    ensures made { IsTrue result → AreClones T.is_clone slots.now from.now.places to.new.places }
+    ensures room { length to.new.places ≡ length to.old.places }
+    ensures fits { slots.now ≡ [] → IsTrue result }
+{
+    'each: for index in 0..slots.len() {
+        if let State::Held(_) = slots[index].state() {
+            match from.place(index).1.clone() {
+                Ok(copy) => to.put(index, ((), copy)),
+                Err(_) => {
+                    drop_between(slots, to, 0, index);
+                    return false;
+                }
+            }
+        }
+    }
+    true
+}
+
+/// Returns a block with a clone of the value of each slot, over a clone of the allocator.
+pub fn clone_values<T: Clone + Drop, A: Allocator + Clone>(
+    slots: &[Slot],
+    values: &RawVec<((), T), A>,
+) -> Result<RawVec<((), T), A>, TryReserveError>
+    requires held { AreHeld slots.now values.now.places }
+    ensures made { IfOk result
+        (λ copy. AreClones T.is_clone slots.now values.now.places copy.places) }
+    ensures room { IfOk result (λ copy. length slots.now ≤ length copy.places) }
+    ensures fits { ((a : A) → A.is_infallible a) → slots.now ≡ [] → IsOk result }
+    ensures error { IfErr result (λ e. IsErrorFor e (length slots.now)) }
+{
+    let mut copy = block_for(values.allocator(), slots.len())?;
+    if put_clones(slots, values, &mut copy) {
+        Ok(copy)
+    } else {
+        Err(alloc_error(slots.len()))
+    }
+}

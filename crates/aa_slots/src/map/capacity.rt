@@ -1,0 +1,74 @@
+//! The capacity of a slot map.
+ghost use Rattle.std.specs.Prelude.{◌≡◌, ◌+◌, ◌-◌, [], IfErr, IfOk, IsOk, OnErr, OnOk};
+ghost use Rattle.allocator_api2.specs.Errors.{IsErrorFor};
+ghost use Rattle.aa_slots.specs.Slotted.{count, with_room, HasRoom};
+
+use crate::blocks;
+use crate::map::SlotMap;
+use allocator_api2::collections::{TryReserveError, TryReserveErrorKind};
+use std::alloc::Allocator;
+
+impl<T: Drop, A: Allocator + Clone> SlotMap<T, A> {
+    /// Returns an empty map that has issued no keys, with capacity for exactly `capacity` values.
+    ///
+    /// Allocates if `capacity` is above 0.
+    ///
+    /// # Errors
+    /// `CapacityOverflow`, or `AllocError` with the number `capacity`, also if a clone of the
+    /// allocator fails.
+    pub fn with_capacity_in(capacity: usize, alloc: A) -> Result<Self, TryReserveError>
+        ensures slots { IfOk result (λ m. m.slots ≡ []) }
+        ensures issued { IfOk result (λ m. m.issued ≡ 0) }
+        ensures capacity { IfOk result (λ m. m.capacity ≡ capacity) }
+        ensures fits { capacity ≡ 0 → IsOk result }
+        ensures error { IfErr result (λ e. IsErrorFor e capacity) }
+    {
+        let mut map = SlotMap::new_in(alloc);
+        map.reserve(capacity)?;
+        Ok(map)
+    }
+
+    /// Reserves capacity for exactly `additional` more values.
+    ///
+    /// Does not allocate if the capacity is already sufficient.
+    ///
+    /// # Errors
+    /// `CapacityOverflow` if the bytes exceed `isize::MAX`; `AllocError` with the requested
+    /// capacity, the number of values with `additional` more, if an allocation or a clone of the
+    /// allocator fails. The map is unchanged.
+    pub fn reserve(&mut self, additional: usize) -> Result<(), TryReserveError>
+        ensures fits { HasRoom self.old additional → IsOk result }
+        ensures enough { OnOk result (HasRoom self.new additional) }
+        ensures reserved { OnOk result (self.new ≡ with_room self.old additional) }
+        ensures error { IfErr result
+            (λ e. IsErrorFor e (count self.old.slots + additional)) }
+        ensures unchanged { OnErr result (self.new ≡ self.old) }
+    {
+        if additional <= self.room() {
+            return Ok(());
+        }
+        match self.len().checked_add(additional) {
+            Some(capacity) => blocks::reserve(&mut self.slots, &mut self.values, capacity),
+            None => Err(TryReserveErrorKind::CapacityOverflow.into()),
+        }
+    }
+}
+
+impl<T, A: Allocator> SlotMap<T, A> {
+    /// Returns the number of values that the map can hold without another allocation.
+    pub fn capacity(&self) -> usize
+        ensures { result ≡ self.now.capacity }
+    {
+        match &self.slots {
+            Some(made) => made.capacity(),
+            None => 0,
+        }
+    }
+
+    // Returns the number of values that can be inserted without another allocation.
+    pub(crate) fn room(&self) -> usize
+        ensures { result ≡ self.now.capacity - count self.now.slots }
+    {
+        self.capacity() - self.len()
+    }
+}

@@ -1,0 +1,40 @@
+//! A slot map by value: the iterator that takes it apart.
+ghost use Rattle.std.specs.Prelude.{◌≡◌, length};
+ghost use Rattle.aa_slots.specs.Slotted.{count, entries};
+
+use crate::into_iter::IntoIter;
+use crate::map::{Key, SlotMap};
+use std::alloc::Allocator;
+
+#[tactic(auto, using(crate::proofs::Finds::finds))]
+impl<T: Drop, A: Allocator> SlotMap<T, A> {
+    /// Returns a double-ended iterator by value over the keys and their values, in the order of the
+    /// slots.
+    ///
+    /// It owns the memory of the map, so this does not allocate.
+    pub fn into_iter(self) -> IntoIter<T, A>
+        ensures all { result ≡ entries self }
+        ensures count { length result ≡ count self.slots }
+    {
+        let count = self.len();
+        let SlotMap {
+            values,
+            slots,
+            free: _,
+            issued: _,
+        } = self;
+        IntoIter::over(slots, values, count)
+    }
+}
+
+impl<T: Drop, A: Allocator> IntoIterator for SlotMap<T, A> {
+    type Item = (Key, T);
+
+    type IntoIter = IntoIter<T, A>;
+
+    ghost into_iter_gives = { λ m i. (i ≡ entries m) × (length i ≡ count m.slots) };
+
+    fn into_iter(self) -> IntoIter<T, A> {
+        SlotMap::into_iter(self)
+    }
+}

@@ -1,0 +1,40 @@
+use Rattle.std.proofs.Common.{arith, refl, rules, subst, sym}
+use Rattle.std.specs.Prelude.{is_some}
+use Rattle.std.specs.Iterator.{size, Drains}
+use Rattle.std.proofs.iter.runs.Consumers.{total_runs}
+use Rattle.aa_table.specs.Contents.{InsertsAll}
+use Rattle.aa_table.proofs.Extending.{insert-more, room-after}
+use Rattle.aa_table.proofs.table.Table.extend.Goals as goal
+
+pub each-init : goal.each-init
+each-init g c = record {
+  inserted = record { entries = λ q. refl; builder = refl };
+  room = λ all. all c.into_iter-entry-iterator.result c.into_iter-entry-iterator.ensures.into_iter_gives;
+}
+
+pub each-preserved : goal.each-preserved
+each-preserved g c =
+    let e = c.in-Ok.ensures in let inv = c.each.invariant in let left = g.U.IntoIter.Iterator.remaining in
+    let fewer = (c.in-Some.ensures.goes.on c.each.iterator.1).2 in
+    record {
+      inserted = insert-more g.K.PartialEq.eq c.args.self.now c.each.self c.insert.new.self c.each.yielded c.in-Some.entry inv.inserted e.inserted e.builder;
+      room = λ all. room-after c.each.self c.insert.new.self (size (left c.each.entry-iterator)) (size (left c.next.new.self)) (is_some c.in-Ok.old) fewer (inv.room all) e.one_more e.replaced_count e.made e.replaced;
+    }
+
+pub returns-in-Err-clause-extended : goal.returns-in-Err-clause-extended
+returns-in-Err-clause-extended g c =
+    let made = c.into_iter-entry-iterator in
+    let kept = subst (λ t. InsertsAll g.K.PartialEq.eq c.args.self.now c.each.yielded t) (sym c.in-Err.ensures.unchanged) c.each.invariant.inserted in
+    (made.result, c.each.yielded, made.ensures.into_iter_gives, kept, (c.each.entry-iterator, c.each.yielded_by))
+
+pub returns-in-Err-clause-fits : goal.returns-in-Err-clause-fits
+returns-in-Err-clause-fits g c = λ all.
+    let fewer = (c.in-Some.ensures.goes.on c.each.iterator.1).2 in
+    c.in-Err.ensures.fits (omega (arith, c.each.invariant.room all, fewer))
+
+pub returns-clause-runs : goal.returns-clause-runs
+returns-clause-runs g c =
+    let made = c.into_iter-entry-iterator in
+    let drained : Drains g.U.IntoIter.Iterator.next_gives made.result c.each.yielded = search rules in
+    let all = total_runs g.U.IntoIter.Iterator.next_gives made.result (Unit {0}) (λ xs. InsertsAll g.K.PartialEq.eq c.args.self.now xs c.each.self) in
+    (made.result, made.ensures.into_iter_gives, all (c.each.yielded, λ _. drained, c.each.invariant.inserted) tt)

@@ -1,0 +1,11 @@
+use Rattle.std.specs.Iterator.{size}
+use Rattle.aa_table.specs.Contents.{HasRoom, InsertsAll}
+use Rattle.aa_table.proofs.table.Table.extend.Given as goal
+
+-- the items so far were inserted, and the others fit if all did
+abbrev pub invariant-each : goal.invariant-each
+invariant-each g l =
+    let left = g.U.IntoIter.Iterator.remaining in record {
+      inserted : InsertsAll g.K.PartialEq.eq l.fn.self l.yielded l.self;
+      room : ((it : g.row.U-IntoIter.Denot) → g.U.IntoIterator.into_iter_gives l.fn.iter it → HasRoom l.fn.self (size (left it))) → HasRoom l.self (size (left l.entry-iterator));
+    }

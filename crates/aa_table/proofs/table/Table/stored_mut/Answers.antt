@@ -1,0 +1,27 @@
+use Rattle.std.proofs.Common.{ap, refl, sym, true≢false, ◌∙◌}
+use Rattle.std.specs.Prelude.{is_some}
+use Rattle.aa_table.specs.Contents.{value, TableView}
+use Rattle.aa_table.proofs.Sound.{absent, findable, is-here, read, written, written-filled}
+use Rattle.aa_table.proofs.table.Table.stored_mut.Goals as goal
+
+pub find_near-requires : goal.find_near-requires
+find_near-requires g c = findable c.self.invariant c.args.key.now _ refl
+
+pub unreachable-requires : goal.unreachable-requires
+unreachable-requires g c =
+    let none = sym (absent c.self.invariant c.args.key.now c.in-None.ensures.absent) ∙ ap (λ (f : TableView _ _ _). value g.K.PartialEq.eq f.entries c.args.key.now) c.self.view_is in
+    true≢false (sym c.requires.there ∙ ap is_some (sym none))
+
+pub invariant_of-self-lent : goal.invariant_of-self-lent
+invariant_of-self-lent g c v =
+    let t = c.self.invariant in let e = c.place_mut.result.now in let at = c.place_mut.ensures.value in
+    let here = is-here t c.args.key.now c.in-Some.slot e at c.in-Some.ensures.found in
+    written t c.args.key.now c.in-Some.slot e (e.0, v) at here here _ refl
+
+pub returns : goal.returns
+returns g c =
+    let t = c.self.invariant in let e = c.place_mut.result.now in let at = c.place_mut.ensures.value in
+    let here = is-here t c.args.key.now c.in-Some.slot e at c.in-Some.ensures.found in (
+      (refl, λ w. written-filled g.K.PartialEq.eq c.args.key.now c.self.inside.places.places c.in-Some.slot e w at here (t.once c.args.key.now) c.self.view_is),
+      record { writes_back = tt; value = sym (ap (λ (f : TableView _ _ _). value g.K.PartialEq.eq f.entries c.args.key.now) c.self.view_is) ∙ read t c.args.key.now c.in-Some.slot e at c.in-Some.ensures.found },
+    )

@@ -1,5 +1,0 @@
-use Rattle.std.proofs.Common.{rules}
-use Rattle.ex_inline.proofs.inline.InlineVec.put_last.Goals as goal
-
-pub push-requires : goal.push-requires
-push-requires g c = (search rules, search rules)

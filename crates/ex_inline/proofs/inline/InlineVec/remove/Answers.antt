@@ -1,5 +1,0 @@
-use Rattle.std.proofs.Common.{rules}
-use Rattle.ex_inline.proofs.inline.InlineVec.remove.Goals as goal
-
-pub remove-requires : goal.remove-requires
-remove-requires g c = (search rules, search rules)

@@ -1,4 +1,0 @@
-use Rattle.ex_inline.proofs.inline.collect.InlineVecExtendRef.TheImpl.Goals as goal
-
-pub extend-asks : goal.extend-asks
-extend-asks g c = record { finite = λ it becomes. let asked = c.requires it becomes in (asked.0, asked.1) }

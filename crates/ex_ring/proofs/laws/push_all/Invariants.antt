@@ -1,5 +1,0 @@
-use Rattle.ex_ring.specs.Paid.{IsPaid}
-use Rattle.ex_ring.proofs.laws.push_all.Given as goal
-
-abbrev pub invariant-each : goal.invariant-each
-invariant-each g l = IsPaid l.i l.ring

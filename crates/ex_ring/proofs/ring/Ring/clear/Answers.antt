@@ -1,5 +1,0 @@
-use Rattle.ex_ring.proofs.Rings.{others-left}
-use Rattle.ex_ring.proofs.ring.Ring.clear.Goals as goal
-
-pub drop_run-requires-2 : goal.drop_run-requires-2
-drop_run-requires-2 g c = rw c.drop_run.ensures (others-left _ _ _ _ c.self.invariant)

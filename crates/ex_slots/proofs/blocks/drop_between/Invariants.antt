@@ -1,9 +1,0 @@
-use Rattle.std.proofs.Common.{◌≡◌, length}
-use Rattle.ex_slots.specs.Inside.{AreHeldBetween}
-use Rattle.ex_slots.proofs.blocks.drop_between.Given as goal
-
--- the slots that follow have their values
-abbrev pub invariant-each : goal.invariant-each
-invariant-each g l =
-    (length l.values.places ≡ length l.fn.values.places)
-    × AreHeldBetween l.slots l.values.places l.index l.end

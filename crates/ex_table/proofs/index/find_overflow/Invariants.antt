@@ -1,6 +1,0 @@
-use Rattle.ex_table.proofs.Finding.{Misses}
-use Rattle.ex_table.proofs.index.find_overflow.Given as goal
-
--- the groups before lack the key
-abbrev pub invariant-each : goal.invariant-each
-invariant-each g l = Misses g.K.PartialEq.eq l.tags l.overflows l.places.places l.hash l.key l.before

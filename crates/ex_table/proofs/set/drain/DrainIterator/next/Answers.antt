@@ -1,6 +1,0 @@
-use Rattle.ex_table.specs.SetDraining.{drain_remaining}
-use Rattle.ex_table.proofs.Draining.{drain-goes}
-use Rattle.ex_table.proofs.set.drain.DrainIterator.next.Goals as goal
-
-pub returns-clause-goes : goal.returns-clause-goes
-returns-clause-goes g c = drain-goes drain_remaining _ _ c.take_next.result c.take_next.ensures.taken
