@@ -106,9 +106,10 @@ def fields_in(text, scope):
 def calls_of(lines, fields, scope, methods):
     """The library's functions that a function calls, each as its type and name. `methods` has the type that each returns, or none."""
     text = "\n".join(line for line in lines if not line.strip().startswith("//"))
-    parts = re.split(r"\n\s*\{\n|\n\{\n", text, maxsplit=1)
+    indent = re.search(r"(?m)^( *)(?:pub(?:\(crate\))? )?fn ", text)[1]
+    parts = text.split(f"\n{indent}{{\n", 1)
     known = scope.typed(text)
-    inside = parts[1] if len(parts) > 1 else text
+    inside = re.sub(r"\s*\n\s*\.", ".", parts[1] if len(parts) > 1 else text)
     found = set()
     for of, name in re.findall(r"\b((?:\w+::)*\w+)(?:::<[^>]*>)?::(\w+)\(", inside):
         if (scope.type(of), name) in methods:
@@ -127,8 +128,8 @@ def calls_of(lines, fields, scope, methods):
     traits = {of for of in scope.names if scope.type(of)}
     for name in re.findall(r"\.(\w+)(?:::<[^>]*>)?\(", inside):
         found |= {(of, name) for of in traits & TRAITS if (of, name) in methods}
-    # What is called on what a call returns.
-    for first, name in re.findall(r"\.(\w+)\((?:[^()]|\([^()]*\))*\)\??\.(\w+)(?=\()", inside):
+    # What is called on what a call returns, from left to right.
+    for first, name in re.findall(r"\.(\w+)\((?:[^()]|\([^()]*\))*\)\??(?=\.(\w+)\()", inside):
         found |= {(of, name) for of in {methods[it] for it in found if it[1] == first} if (of, name) in methods}
     return found
 
