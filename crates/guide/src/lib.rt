@@ -15,6 +15,7 @@ pub mod boxes;
 pub mod buffers;
 pub mod chosen;
 pub mod compared;
+pub mod copies;
 pub mod moved;
 pub mod positions;
 pub mod ranges;

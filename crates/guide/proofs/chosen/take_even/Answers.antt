@@ -1,4 +1,4 @@
-use Rattle.std.proofs.Common.{rules, ◌==◌, ◌%◌, ℕ}
+use Rattle.std.proofs.Common.{rules, ◌==◌, ◌%◌}
 use Rattle.allocator_api2.proofs.Callers.{Extends_filter}
 use Rattle.guide.proofs.chosen.take_even.Goals as goal
 
