@@ -13,8 +13,8 @@ SKIPPED = {"faulty"}
 TESTS = ["ex_tests", "layer_tests"]
 # The layers that stand on the block, whose functions are quoted if no other calls an item.
 LAYERS = ["aa_boxed", "aa_vec", "aa_gap"]
-# The traits whose methods are called by dot on a type of another crate.
-TRAITS = {"SliceExt"}
+# The traits whose methods are called on a type of another crate.
+TRAITS = {"SliceExt", "Repeat"}
 
 
 def sources():
@@ -111,7 +111,8 @@ def calls_of(lines, fields, scope, methods):
     known = scope.typed(text)
     inside = re.sub(r"\s*\n\s*\.", ".", parts[1] if len(parts) > 1 else text)
     found = set()
-    for of, name in re.findall(r"\b((?:\w+::)*\w+)(?:::<[^>]*>)?::(\w+)\(", inside):
+    known.update({name: known[of] for name, of in re.findall(r"let (?:mut )?(\w+) = (\w+);", inside) if of in known})
+    for of, name in re.findall(r"\b((?:\w+::)*\w+)(?:::<[^>]*>)?::(\w+)(?:::<[^>]*>)?\(", inside):
         if (scope.type(of), name) in methods:
             found.add((scope.type(of), name))
     for named, path, name in re.findall(r"(?:let (?:mut )?(\w+) = )?((?:\w+\.)*\w+)\.(\w+)(?:::<[^>]*>)?\(", inside):
@@ -126,7 +127,7 @@ def calls_of(lines, fields, scope, methods):
         if scope.path(name)[0] in scope.crates and ("", name) in methods:
             found.add(("", name))
     traits = {of for of in scope.names if scope.type(of)}
-    for name in re.findall(r"\.(\w+)(?:::<[^>]*>)?\(", inside):
+    for name in re.findall(r"(?:\.|\bu\d+::)(\w+)(?:::<[^>]*>)?\(", inside):
         found |= {(of, name) for of in traits & TRAITS if (of, name) in methods}
     # What is called on what a call returns, from left to right.
     for first, name in re.findall(r"\.(\w+)\((?:[^()]|\([^()]*\))*\)\??(?=\.(\w+)\()", inside):
