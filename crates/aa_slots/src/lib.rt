@@ -9,4 +9,4 @@ pub mod into_iter;
 pub mod iter;
 pub mod iter_mut;
 pub mod map;
-pub mod slots;
+mod slots;

@@ -6,13 +6,13 @@
 pub mod clone;
 pub mod compare;
 pub mod extend;
-pub mod growth;
-pub mod index;
+mod growth;
+mod index;
 pub mod into_parts;
 pub mod iter;
 pub mod iter_mut;
 pub mod set;
-pub mod slots;
+mod slots;
 pub mod table;
 pub mod traits;
-pub mod walk;
+mod walk;

@@ -52,7 +52,7 @@ pub fn taken_out<A: Allocator>(place: RawBox<u64, A>) -> (u64, RawVec<u64, A>)
 }
 
 /// Returns the error of a collection that could not allocate `count` numbers for itself.
-pub fn refused_numbers(count: usize) -> TryReserveError
+pub fn error_for_numbers(count: usize) -> TryReserveError
     ensures { result ≡ error_for 8 count }
 {
     TryReserveError::for_capacity::<u64>(count)
