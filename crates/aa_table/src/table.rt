@@ -108,14 +108,37 @@ impl<K: Eq + Hash + Drop, V: Drop, A: Allocator + Clone> Table<
     /// # Errors
     /// `CapacityOverflow` if `capacity` is more than 2,000,000,000 or the bytes exceed
     /// `isize::MAX`; `AllocError` with the greater of `capacity` and 14 if the allocation fails.
-    #[tactic(auto, using(crate::proofs::Maps::none_permuted))]
     pub fn with_capacity_in(capacity: usize, alloc: A) -> Result<Self, TryReserveError>
         ensures entries { IfOk result (λ t. t.entries ≡ []) }
         ensures room { IfOk result (λ t. capacity ≤ t.capacity) }
         ensures made { IfOk result (λ t. t.capacity ≡ fresh_capacity capacity) }
         ensures error { IfErr result (LacksRoom 0 0 capacity (max capacity 14)) }
     {
-        let mut table = Table::new_in(alloc);
+        Table::with_capacity_and_hasher_in(capacity, BuildHasherDefault::new(), alloc)
+    }
+}
+
+impl<K: Eq + Hash + Drop, V: Drop, S: BuildHasher + Drop, A: Allocator + Clone> Table<K, V, S, A> {
+    /// Returns an empty table with capacity for `capacity` keys or more, whose hashers are made by
+    /// `builder`.
+    ///
+    /// The capacity is 0 for 0 keys, and at least 14 for more. Does not allocate if `capacity` is 0.
+    ///
+    /// # Errors
+    /// As for `with_capacity_in`.
+    #[tactic(auto, using(crate::proofs::Maps::none_permuted))]
+    pub fn with_capacity_and_hasher_in(
+        capacity: usize,
+        builder: S,
+        alloc: A,
+    ) -> Result<Self, TryReserveError>
+        ensures entries { IfOk result (λ t. t.entries ≡ []) }
+        ensures room { IfOk result (λ t. capacity ≤ t.capacity) }
+        ensures made { IfOk result (λ t. t.capacity ≡ fresh_capacity capacity) }
+        ensures builder { IfOk result (λ t. t.builder ≡ builder) }
+        ensures error { IfErr result (LacksRoom 0 0 capacity (max capacity 14)) }
+    {
+        let mut table = Table::with_hasher_in(builder, alloc);
         table.reserve(capacity)?;
         Ok(table)
     }

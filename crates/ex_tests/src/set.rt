@@ -79,7 +79,7 @@ fn sets_are_joined(rt: HostRuntime) {
     let heap = Faulty::new(rt.alloc());
     let (mut left, mut right) = (none(&heap), none(&heap));
     assert!(rt; takes(&mut left, 1..5) && takes(&mut right, 3..9));
-    let (mut both, mut only, mut any) = (0u64, 0u64, 0u64);
+    let (mut both, mut only, mut any, mut one) = (0u64, 0u64, 0u64, 0u64);
     for value in left.intersection(&right) {
         both = both.saturating_add(*value);
     }
@@ -89,7 +89,10 @@ fn sets_are_joined(rt: HostRuntime) {
     for value in left.union(&right) {
         any = any.saturating_add(*value);
     }
-    assert!(rt; (both, only, any) == (7, 3, 36));
+    for value in left.symmetric_difference(&right) {
+        one = one.saturating_add(*value);
+    }
+    assert!(rt; (both, only, any, one) == (7, 3, 36, 29));
 }
 
 // Whether a set is printed so.

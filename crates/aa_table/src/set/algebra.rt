@@ -139,6 +139,45 @@ impl<'a, T: Eq + Hash + Drop, S: BuildHasher, A: Allocator + Clone> Iterator
 impl<'a, T: Eq + Hash + Drop, S: BuildHasher, A: Allocator + Clone> FusedIterator
     for Union<'a, T, S, A> {}
 
+/// An iterator over the elements of each of two sets that the other does not have.
+///
+/// Returned by `Set::symmetric_difference`. A contract sees it as the list of the remaining
+/// elements.
+#[derive(Drop)]
+pub struct SymmetricDifference<'a, T: Eq + Hash, S: BuildHasher, A: Allocator> {
+    first: Difference<'a, T, S, A>,
+    second: Difference<'a, T, S, A>,
+}
+
+impl<'a, T: Eq + Hash, S: BuildHasher, A: Allocator> Model for SymmetricDifference<'a, T, S, A> {
+    ghost use Rattle.std.specs.Prelude.{List, ◌++◌};
+
+    ghost Value = { List T };
+
+    ghost view = { λ it. it.first ++ it.second };
+}
+
+impl<'a, T: Eq + Hash + Drop, S: BuildHasher, A: Allocator + Clone> Iterator
+    for SymmetricDifference<'a, T, S, A> {
+    type Item = &'a T;
+
+    ghost next_gives = { YieldsFirstBy (λ value. value.now) (λ rest. rest) };
+
+    ghost remaining = { item_count (λ rest. rest) };
+
+    /// Returns the next element that only the first set has, then those that only the second has,
+    /// or `None` if none remains.
+    fn next(&mut self) -> Option<&'a T> {
+        if let Some(value) = self.first.next() {
+            return Some(value);
+        }
+        self.second.next()
+    }
+}
+
+impl<'a, T: Eq + Hash + Drop, S: BuildHasher, A: Allocator + Clone> FusedIterator
+    for SymmetricDifference<'a, T, S, A> {}
+
 impl<T: Eq + Hash + Drop, S: BuildHasher, A: Allocator + Clone> Set<T, S, A> {
     /// Returns an iterator over the elements that are in `other`, in the order of `iter`.
     pub fn intersection<'a>(&'a self, other: &'a Set<T, S, A>) -> Intersection<'a, T, S, A>
@@ -168,6 +207,22 @@ impl<T: Eq + Hash + Drop, S: BuildHasher, A: Allocator + Clone> Set<T, S, A> {
     {
         Union {
             first: self.iter(),
+            second: other.difference(self),
+        }
+    }
+
+    /// Returns an iterator over the elements that are not in `other`, and then over those that only
+    /// `other` has.
+    pub fn symmetric_difference<'a>(
+        &'a self,
+        other: &'a Set<T, S, A>,
+    ) -> SymmetricDifference<'a, T, S, A>
+        ensures { result
+            ≡ filter (λ x. not (is_member T.eq other.now.elements x)) self.now.elements
+            ++ filter (λ x. not (is_member T.eq self.now.elements x)) other.now.elements }
+    {
+        SymmetricDifference {
+            first: self.difference(other),
             second: other.difference(self),
         }
     }
