@@ -5,8 +5,6 @@
 #[cfg(test)]
 mod allocators;
 #[cfg(test)]
-mod btree;
-#[cfg(test)]
 mod callers;
 #[cfg(test)]
 mod cases;
@@ -14,8 +12,6 @@ mod cases;
 mod inline;
 #[cfg(test)]
 mod layers;
-#[cfg(test)]
-mod leaf;
 #[cfg(test)]
 mod ledgers;
 #[cfg(test)]

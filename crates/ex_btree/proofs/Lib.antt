@@ -1,8 +1,0 @@
-pub mod LeafOrder
-pub mod LeafBorrowed
-pub mod Order
-pub mod Splitting
-pub mod Borrowed
-pub mod Ranges
-pub mod Extending
-pub mod Passing
