@@ -13,7 +13,8 @@ use crate::slots::{Chain, Slot, first_held, put, release, serial_at, slots_in};
 use allocator_api2::collections::{Refused, TryReserveError, TryReserveErrorKind};
 use allocator_api2::raw_vec::RawVec;
 use allocator_api2::vec::Vec;
-use std::alloc::Allocator;
+use std::alloc::{Allocator, Global};
+use std::default::Default;
 use std::marker::Model;
 
 // The number of keys that a map can issue.
@@ -31,11 +32,21 @@ mod traits;
 /// A key of one value in the map that issued it.
 ///
 /// It consists of the index of its slot, and its serial: the number of keys issued before it. It
-/// does not identify its map: in another map it may find a value.
-#[derive(Clone, Copy, PartialEq, Eq, Debug, Drop)]
+/// does not identify its map: in another map it may find a value. Keys are ordered by these two.
+#[derive(Clone, Copy, PartialEq, Eq, PartialOrd, Ord, Hash, Debug, Drop)]
 pub struct Key {
     pub(crate) index: usize,
     pub(crate) serial: u64,
+}
+
+impl Default for Key {
+    /// Returns a key that no map issues.
+    fn default() -> Key {
+        Key {
+            index: usize::MAX,
+            serial: u64::MAX,
+        }
+    }
 }
 
 /// A slot map: it returns a key for each value inserted, which finds the value until it is removed.
@@ -45,7 +56,7 @@ pub struct Key {
 ///
 /// Use a key only with the map that returned it. Maps have no key type of their own, and keys do
 /// not identify their map. So a key of another map finds a value if slot and serial are the same.
-pub struct SlotMap<T, A: Allocator> {
+pub struct SlotMap<T, A: Allocator = Global> {
     // each value in the place with the index of its slot
     values: RawVec<((), T), A>,
     // `None` until the map first allocates

@@ -11,7 +11,7 @@ use crate::into_parts::IntoKeys;
 use crate::iter::Keys;
 use crate::table::Table;
 use allocator_api2::collections::{Refused, TryReserveError};
-use std::alloc::Allocator;
+use std::alloc::{Allocator, Global};
 use std::hash::{BuildHasher, BuildHasherDefault, FoldHasher, Hash};
 use std::marker::Model;
 
@@ -24,7 +24,11 @@ mod traits;
 ///
 /// A contract sees a set as its elements, its capacity and the builder of its hashers.
 #[derive(Drop)]
-pub struct Set<T: Eq + Hash, S: BuildHasher, A: Allocator> {
+pub struct Set<
+    T: Eq + Hash,
+    S: BuildHasher = BuildHasherDefault<FoldHasher>,
+    A: Allocator = Global,
+> {
     table: Table<T, (), S, A>,
 }
 

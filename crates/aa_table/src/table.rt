@@ -14,7 +14,7 @@ use crate::into_parts::{IntoKeys, IntoValues};
 use crate::iter::{IntoIter, Iter, Keys, Values};
 use allocator_api2::collections::{Refused, TryReserveError, TryReserveErrorKind};
 use allocator_api2::raw_vec::RawVec;
-use std::alloc::Allocator;
+use std::alloc::{Allocator, Global};
 use std::hash::{BuildHasher, BuildHasherDefault, FoldHasher, Hash};
 use std::marker::Model;
 use std::mem;
@@ -34,7 +34,12 @@ const MAX_KEYS: usize = 2_000_000_000;
 ///
 /// A contract sees a table as its entries, its capacity and the builder of its hashers. Each key
 /// has a home slot, and each slot a tag: a byte of the hash of its key.
-pub struct Table<K: Eq + Hash, V, S: BuildHasher, A: Allocator> {
+pub struct Table<
+    K: Eq + Hash,
+    V,
+    S: BuildHasher = BuildHasherDefault<FoldHasher>,
+    A: Allocator = Global,
+> {
     // each key with its value, in the place with the number of its slot
     places: RawVec<(K, V), A>,
     // `None` until the table first allocates

@@ -102,7 +102,7 @@ fn prints(alloc: Global, set: &Small<'_>, text: &str) -> Result<bool, AllocError
 }
 
 // A set over the global allocator.
-type Plain = Set<u64, BuildHasherDefault<FoldHasher>, Global>;
+type Plain = Set<u64>;
 
 // A set of these values.
 fn made(alloc: Global, values: &[u64]) -> Result<Plain, AllocError> {

@@ -1,6 +1,7 @@
 //! The slot map.
 use aa_slots::cursor::CursorMut;
 use aa_slots::map::{Key, SlotMap};
+use aa_table::set::Set;
 use allocator_api2::collections::TryReserveErrorKind;
 use std::alloc::{AllocError, Global};
 use std::default::{Emptied, MadeWith};
@@ -481,4 +482,24 @@ fn a_forgotten_drain_leaves_values_in_the_map(rt: HostRuntime) {
     assert!(rt; forgotten(&mut map) == Some(1) && map.len() == 2);
     assert!(rt; finds_any(&map, five) == Some(5) && put(&mut map, 7).is_some());
     assert!(rt; digits_drained(&mut map) == 735 && map.len() == 0);
+}
+
+// Whether the key of a new value is put into a set once, and is no key that no map issues.
+fn is_new_once(map: &mut SlotMap<u8>, seen: &mut Set<Key>) -> bool {
+    match map.insert(7) {
+        Ok(key) => {
+            let added = matches!(seen.insert(key), Ok(true))
+                && matches!(seen.insert(key), Ok(false));
+            added && key < Key::default() && map.get(Key::default()).is_none()
+        }
+        Err(_) => false,
+    }
+}
+
+#[test]
+fn keys_are_put_in_a_set(rt: HostRuntime) {
+    let mut map = SlotMap::new_in(rt.alloc());
+    let mut seen = Set::new_in(rt.alloc());
+    assert!(rt; is_new_once(&mut map, &mut seen) && is_new_once(&mut map, &mut seen));
+    assert!(rt; seen.len() == 2 && map.len() == 2);
 }

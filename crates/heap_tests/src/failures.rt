@@ -26,7 +26,7 @@ fn lacks(ended: Result<(), TryReserveError>, capacity: usize) -> bool {
 }
 
 // Whether a push fails, and returns the item.
-fn refuses(queue: &mut Small<'_>, item: u32, capacity: usize) -> bool {
+fn fails_for(queue: &mut Small<'_>, item: u32, capacity: usize) -> bool {
     match queue.push(item) {
         Ok(()) => false,
         Err(refused) => refused.source == item && lacks(Err(refused.error), capacity),
@@ -39,7 +39,7 @@ fn failed_calls_change_nothing(rt: HostRuntime) {
     let mut queue = full(&heap);
     let mut other = full(&heap);
     heap.fail_requests(0, 100);
-    assert!(rt; refuses(&mut queue, 9, 8));
+    assert!(rt; fails_for(&mut queue, 9, 8));
     assert!(rt; lacks(queue.append(&mut other), 8) && other.len() == 4);
     assert!(rt; lacks(queue.reserve(9), 13) && lacks(queue.reserve_exact(2), 6));
     assert!(rt; lacks(queue.extend([7]), 8));
