@@ -1,0 +1,16 @@
+use Rattle.std.proofs.Common.{◌≡◌, ◌+◌, ◌≤◌, length}
+use Rattle.aa_ordered.specs.Appending.{insert_all}
+use Rattle.aa_ordered.specs.Capacity.{reserved_capacity}
+use Rattle.aa_ordered.proofs.map.OrderedMap.append.Given as goal
+
+-- the entries of `other` that remain are still to be inserted
+abbrev pub invariant-each : goal.invariant-each
+invariant-each g l = record {
+  all : insert_all g.K.Ord.cmp l.self.entries l.other.entries ≡ insert_all g.K.Ord.cmp l.fn.self.entries l.fn.other.entries;
+  room : length l.self.entries + length l.other.entries ≤ l.self.capacity;
+  capacity : l.self.capacity ≡ reserved_capacity l.fn.self (length l.fn.other.entries);
+  there : l.other.capacity ≡ l.fn.other.capacity;
+}
+
+abbrev pub decreases-each : goal.decreases-each
+decreases-each g l = length l.other.entries

@@ -1,0 +1,10 @@
+use Rattle.std.proofs.Common.{subst}
+use Rattle.aa_ordered.specs.Entries.{OrderedView}
+use Rattle.aa_ordered.specs.Iterating.{InsertsAll}
+use Rattle.aa_ordered.proofs.map.OrderedMap.from_iter_in.Goals as goal
+
+pub returns-in-Err-clause-failed : goal.returns-in-Err-clause-failed
+returns-in-Err-clause-failed g c =
+    let e = c.in-Err.ensures.extended in let map = c.extend.new.self in
+    let inserted = subst (λ (m : OrderedView g.row.K.Denot g.row.V.Denot). InsertsAll g.K.Ord.cmp m e.1 map) c.new_in-map.ensures e.3 in
+    (map, (e.0, e.1, e.2, inserted, e.4), c.in-Err.ensures.error)

@@ -1,0 +1,30 @@
+-- The capacity of an ordered map, and the allocations that it requests.
+use Rattle.std.specs.Prelude.{ℕ, ◌+◌, ◌-◌, ◌*◌, ◌/◌, ◌==◌, if◌then◌else◌, length, max, nat_le}
+use Rattle.aa_ordered.specs.Entries.{OrderedView}
+
+-- the number of entries that a map with `leaves` leaves can always hold
+abbrev pub capacity_of : (leaves : ℕ) → ℕ
+capacity_of leaves = if leaves == 0 then 0 else (leaves + 1) * 32
+
+-- the number of leaves of a map with this capacity
+abbrev pub leaves_of : (capacity : ℕ) → ℕ
+leaves_of capacity = capacity / 32 - 1
+
+-- the least number of leaves with capacity for `n` entries
+abbrev pub leaves_for : (n : ℕ) → ℕ
+leaves_for n = if n == 0 then 0 else max 1 ((n - 1) / 32)
+
+module _ {K V : Type 0} where
+  -- the number of leaves that the map `m` requests for `k` more entries: at least twice as many
+  abbrev pub requested_leaves : OrderedView K V → (k : ℕ) → ℕ
+  requested_leaves m k = max (2 * leaves_of m.capacity) (leaves_for (length m.entries + k))
+
+  -- the number of entries in the block that the map `m` requests for `k` more
+  abbrev pub requested : OrderedView K V → (k : ℕ) → ℕ
+  requested m k = requested_leaves m k * 64
+
+  -- the capacity of the map `m` after a reserve of `k` more entries
+  abbrev pub reserved_capacity : OrderedView K V → (k : ℕ) → ℕ
+  reserved_capacity m k =
+      if nat_le (length m.entries + k) m.capacity then m.capacity
+      else capacity_of (requested_leaves m k)

@@ -1,0 +1,54 @@
+-- The entries of an ordered map: keys with their values, in the order of the keys.
+use Rattle.std.specs.Prelude.{◌≡◌, ℕ, ◌<◌, ◌≤◌, List, length, take, drop, All, Option, slice_index_or}
+use Rattle.std.specs.declared.cmp.Ordering.{Ordering}
+use Rattle.std.specs.declared.cmp.Ordering.TheVariants.{Less, Equal, Greater}
+use Rattle.std.specs.Map.{keys_of, lookup, lookup_entry, remove_entry, set_value}
+use Rattle.std.specs.BTreeMap.{is_at}
+use Rattle.core.specs.List.Sorted.{IsStrictlySortedBy}
+
+-- the view of an ordered map: its entries in the order of the keys, and the number of entries that
+-- it can always hold without another allocation
+pub record OrderedView (K V : Type 0) : Type 0 where
+  pub entries : List (K × V)
+  pub capacity : ℕ
+
+module _ {K V : Type 0} (cmp : K → K → Ordering) where
+  -- each key of the entries `es` is less than those after it
+  abbrev pub IsOrdered : List (K × V) → Type 0
+  IsOrdered es = IsStrictlySortedBy cmp (keys_of es)
+
+  -- the value of the key `k` in the entries `es`
+  abbrev pub value : List (K × V) → K → Option V
+  value es k = lookup (is_at (cmp k)) es
+
+  -- the entry with a key equal to `k` in the entries `es`
+  abbrev pub entry_of : List (K × V) → K → Option (K × V)
+  entry_of es k = lookup_entry (is_at (cmp k)) es
+
+  -- the entries `es` without the key `k`
+  abbrev pub without : List (K × V) → K → List (K × V)
+  without es k = remove_entry (is_at (cmp k)) es
+
+  -- the entries `es` with `v` as the value of the key `k`, if they have the key
+  abbrev pub with_value : List (K × V) → K → V → List (K × V)
+  with_value es k v = set_value (is_at (cmp k)) es v
+
+  -- all keys of the entries `es` are less than `k`
+  abbrev pub AreLess : K → List (K × V) → Type 0
+  AreLess k es = All (λ e. cmp k e.0 ≡ Greater) es
+
+  -- all keys of the entries `es` are greater than `k`
+  abbrev pub AreGreater : K → List (K × V) → Type 0
+  AreGreater k es = All (λ e. cmp k e.0 ≡ Less) es
+
+  -- the entries `es` have the key `k` at index `at`
+  pub record IsFound (es : List (K × V)) (k : K) (at : ℕ) : Type 0 where
+    pub within : at < length es
+    pub before : AreLess k (take at es)
+    pub equal : (e : K × V) → e ≡ slice_index_or es at e → cmp k e.0 ≡ Equal
+
+  -- the entries `es` do not have the key `k`, which belongs at index `at`
+  pub record IsGap (es : List (K × V)) (k : K) (at : ℕ) : Type 0 where
+    pub within : at ≤ length es
+    pub before : AreLess k (take at es)
+    pub after : AreGreater k (drop at es)

@@ -1,0 +1,31 @@
+-- Entries that are inserted into a map one by one.
+use Rattle.std.specs.Prelude.{◌≡◌, ℕ, ◌+◌, ◌≤◌, List, [], ◌∷◌, length}
+use Rattle.std.specs.BTreeMap.{insert_entry}
+use Rattle.std.specs.List.{AllZip}
+use Rattle.std.specs.declared.cmp.Ordering.{Ordering}
+use Rattle.aa_ordered.specs.Entries.{OrderedView, IsOrdered}
+
+module _ {K V : Type 0} where
+  -- the map `m` always has capacity for `k` more entries
+  abbrev pub HasCapacity : OrderedView K V → (k : ℕ) → Type 0
+  HasCapacity m k = length m.entries + k ≤ m.capacity
+
+module _ {K V : Type 0} (cmp : K → K → Ordering) where
+  -- the entries `es` after each pair of `xs` was inserted in turn, so that the first of equal keys
+  -- stays and the last of their values
+  abbrev pub insert_all : List (K × V) → List (K × V) → List (K × V)
+  insert_all es [] = es
+  insert_all es (x ∷ xs) = insert_all (insert_entry cmp es x.0 x.1) xs
+
+  -- the map `n` has the entries of `m` after each pair of `xs` was inserted in turn
+  abbrev pub InsertsAll : OrderedView K V → List (K × V) → OrderedView K V → Type 0
+  InsertsAll m xs n = n.entries ≡ insert_all m.entries xs
+
+  -- the map `n` has clones of the entries of `m`, inserted in turn, where `C` and `D` relate a key
+  -- and a value to its clone
+  pub record IsCopy (C : K → K → Type 0) (D : V → V → Type 0) (m n : OrderedView K V)
+      : Type 0 where
+    pub clones : List (K × V)
+    pub each : AllZip (λ e f. C e.0 f.0 × D e.1 f.1) m.entries clones
+    pub entries : n.entries ≡ insert_all [] clones
+    pub same : IsOrdered cmp clones → n.entries ≡ clones

@@ -1,0 +1,200 @@
+//! `OrderedMap::entry`, and the calls of an entry.
+ghost use Rattle.std.specs.Prelude.{◌≡◌, ◌<◌, is_some, length, option_map, true, None, Some, IfErr, IfOk, IsOk, OnErr};
+ghost use Rattle.std.specs.Borrow.{sem};
+ghost use Rattle.std.specs.Option.{unwrap_or, UnwrapsOrElse};
+ghost use Rattle.allocator_api2.specs.Errors.{IsErrorFor};
+ghost use Rattle.aa_ordered.specs.Capacity.{requested};
+ghost use Rattle.aa_ordered.specs.Entries.{entry_of, value};
+ghost use Rattle.aa_ordered.specs.Entry.{Occupied, Vacant, entry_key, entry_map, entry_value, lends_entry, lends_occupied, writes, MatchEntry};
+
+use super::{Entry, OccupiedEntry, VacantEntry};
+use crate::map::OrderedMap;
+use allocator_api2::collections::Refused;
+use std::alloc::Allocator;
+use std::cmp::Ord;
+use std::mem;
+
+impl<K: Ord + Drop, V: Drop, A: Allocator + Clone> OrderedMap<K, V, A> {
+    /// Returns the entry of `key`, by which its value is read, changed or inserted.
+    ///
+    /// Does not allocate.
+    pub fn entry(&mut self, key: K) -> Entry<'_, K, V, A>
+        // It borrows this map as it is, at `key`.
+        ensures lender { (entry_map result).ghost_name ≡ self.entry.ghost_name }
+        ensures unchanged { (entry_map result).now ≡ self.old }
+        ensures key { entry_key result ≡ key }
+
+        // It is occupied if the key is present.
+        ensures found { MatchEntry result
+            (is_some (value K.cmp self.old.entries key) ≡ true)
+            (value K.cmp self.old.entries key ≡ None) }
+    {
+        if self.contains_key(&key) {
+            Entry::Occupied(OccupiedEntry { map: self, key })
+        } else {
+            Entry::Vacant(VacantEntry { map: self, key })
+        }
+    }
+}
+
+impl<'a, K: Ord + Drop, V: Drop, A: Allocator + Clone> OccupiedEntry<'a, K, V, A> {
+    /// Returns a reference to the stored key.
+    pub fn key(&self) -> &K
+        ensures { option_map (λ e. e.0) (entry_of K.cmp self.now.map.now.entries self.now.key)
+            ≡ Some result.now }
+    {
+        match self.map.get_key_value(&self.key) {
+            Some((key, _)) => key,
+            None => unreachable!(),
+        }
+    }
+
+    /// Returns a reference to the value.
+    pub fn get(&self) -> &V
+        ensures { entry_value (Occupied self.now) ≡ Some result.now }
+    {
+        match self.map.get(&self.key) {
+            Some(value) => value,
+            None => unreachable!(),
+        }
+    }
+
+    /// Consumes the entry and returns a mutable reference to the value in the map.
+    ///
+    /// When the borrow ends, the key has the last value written to it.
+    pub fn into_mut(self) -> &'a mut V
+        ensures* writes_back { sem 𝓛 (lends_occupied K.row V.row A.row A.Allocator self.entry
+            result) }
+        ensures value { entry_value (Occupied self.entry) ≡ Some result.now }
+    {
+        let OccupiedEntry { map, key } = self;
+        map.stored_mut(&key)
+    }
+
+    /// Sets the value to `value`, and returns the old value.
+    pub fn insert(&mut self, value: V) -> V
+        ensures old { entry_value (Occupied self.old) ≡ Some result }
+        ensures lender { self.new.map.ghost_name ≡ self.old.map.ghost_name }
+        ensures written { self.new.map.now ≡ writes K.cmp self.old.map.now self.old.key value }
+        ensures key { self.new.key ≡ self.old.key }
+    {
+        mem::replace(self.map.stored_mut(&self.key), value)
+    }
+}
+
+impl<'a, K: Ord + Drop, V: Drop, A: Allocator + Clone> VacantEntry<'a, K, V, A> {
+    /// Returns a reference to the key that `insert` would store.
+    pub fn key(&self) -> &K
+        ensures { result.now ≡ entry_key (Vacant self.now) }
+    {
+        &self.key
+    }
+
+    /// Consumes the entry and returns its key.
+    pub fn into_key(self) -> K
+        ensures key { result ≡ entry_key (Vacant self.entry) }
+        ensures unchanged { self.exit.0.now ≡ (entry_map (Vacant self.entry)).now }
+    {
+        let VacantEntry { map: _, key } = self;
+        key
+    }
+
+    /// Inserts the key with the value `value`, and returns a mutable reference to the value.
+    ///
+    /// When the borrow ends, the key has the last value written to it. Allocates only if the map
+    /// has as many entries as its capacity, or more.
+    ///
+    /// # Errors
+    /// The errors of `OrderedMap::insert`. The map is unchanged, and key and value are returned in
+    /// the error.
+    pub fn insert(self, value: V) -> Result<&'a mut V, Refused<(K, V)>>
+        // If there is capacity, it succeeds.
+        ensures fits { let map = (entry_map (Vacant self.entry)).now in
+            length map.entries < map.capacity → IsOk result }
+
+        // When the borrow ends, the map has the key with the last value written to it. An error
+        // leaves the map unchanged.
+        ensures* writes_back { sem 𝓛 (lends_entry K.row V.row A.row A.Allocator
+            (Vacant self.entry) result) }
+        ensures value { IfOk result (λ v. v.now ≡ value) }
+
+        // An error returns key and value, and says why it failed.
+        ensures returned { IfErr result
+            (λ r. r.source ≡ (entry_key (Vacant self.entry), value)) }
+        ensures error { IfErr result
+            (λ r. IsErrorFor r.error (requested (entry_map (Vacant self.entry)).now 1)) }
+    {
+        let VacantEntry { map, key } = self;
+        map.insert_vacant(key, value)
+    }
+}
+
+impl<'a, K: Ord + Drop, V: Drop, A: Allocator + Clone> Entry<'a, K, V, A> {
+    /// Inserts `default` if the key is absent, and returns a mutable reference to the value.
+    ///
+    /// When the borrow ends, the key has the last value written to it. Allocates only if the key is
+    /// absent and the map has as many entries as its capacity, or more.
+    ///
+    /// # Errors
+    /// The errors of `OrderedMap::insert`. The map is unchanged, and key and value are returned in
+    /// the error.
+    pub fn or_insert(self, default: V) -> Result<&'a mut V, Refused<(K, V)>>
+        // If there is capacity, it succeeds.
+        ensures fits { let map = (entry_map self.entry).now in
+            length map.entries < map.capacity → IsOk result }
+
+        // When the borrow ends, the key has the last value written to it. An error leaves the map
+        // unchanged.
+        ensures* writes_back { sem 𝓛 (lends_entry K.row V.row A.row A.Allocator self.entry
+            result) }
+        ensures value { IfOk result
+            (λ v. v.now ≡ unwrap_or (entry_value self.entry) default) }
+
+        // An error returns key and value, and says why it failed.
+        ensures returned { IfErr result (λ r. r.source ≡ (entry_key self.entry, default)) }
+        ensures absent { OnErr result (entry_value self.entry ≡ None) }
+        ensures error { IfErr result
+            (λ r. IsErrorFor r.error (requested (entry_map self.entry).now 1)) }
+    {
+        match self {
+            Entry::Occupied(entry) => Ok(entry.into_mut()),
+            Entry::Vacant(entry) => entry.insert(default),
+        }
+    }
+
+    /// Like `or_insert`, but inserts what `default` returns, which is called only if the key is
+    /// absent.
+    ///
+    /// # Errors
+    /// The errors of `OrderedMap::insert`. The map is unchanged, and key and value are returned in
+    /// the error.
+    pub fn or_insert_with<F: FnOnce() -> V + Drop>(
+        self,
+        default: F,
+    ) -> Result<&'a mut V, Refused<(K, V)>>
+        requires callable { entry_value self ≡ None → F.pre default }
+
+        // If there is capacity, it succeeds.
+        ensures fits { let map = (entry_map self.entry).now in
+            length map.entries < map.capacity → IsOk result }
+
+        // When the borrow ends, the key has the last value written to it. An error leaves the map
+        // unchanged.
+        ensures* writes_back { sem 𝓛 (lends_entry K.row V.row A.row A.Allocator self.entry
+            result) }
+        ensures value { IfOk result
+            (λ v. UnwrapsOrElse (entry_value self.entry) (F.post default) v.now) }
+
+        // An error returns key and value, and says why it failed.
+        ensures returned { IfErr result
+            (λ r. (r.source.0 ≡ entry_key self.entry) × F.post default r.source.1) }
+        ensures absent { OnErr result (entry_value self.entry ≡ None) }
+        ensures error { IfErr result
+            (λ r. IsErrorFor r.error (requested (entry_map self.entry).now 1)) }
+    {
+        match self {
+            Entry::Occupied(entry) => Ok(entry.into_mut()),
+            Entry::Vacant(entry) => entry.insert(default()),
+        }
+    }
+}

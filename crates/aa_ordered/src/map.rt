@@ -1,0 +1,280 @@
+//! The ordered map: a map from keys to values, in the order of the keys.
+ghost use Rattle.std.specs.Prelude.{◌≡◌, ◌+◌, ◌-◌, ◌*◌, ◌<◌, ◌≤◌, ◌↔◌, [], drop, is_some, length, max, take, true, IfErr, IfOk, IsOk, IsTrue, OnErr, OnOk, option_copied, option_map, slice_get};
+ghost use Rattle.std.specs.Borrow.{sem};
+ghost use Rattle.std.specs.Option.{option_copied_mut};
+ghost use Rattle.std.specs.BTreeMap.{insert_entry};
+ghost use Rattle.allocator_api2.specs.Errors.{IsErrorFor};
+ghost use Rattle.aa_ordered.specs.Capacity.{capacity_of, leaves_for, requested, reserved_capacity};
+ghost use Rattle.aa_ordered.specs.Entries.{entry_of, value, without, IsOrdered};
+
+use crate::leaves::Leaves;
+use allocator_api2::collections::{Refused, TryReserveError};
+use find::find;
+use spots::{insert_at, remove_at};
+use std::alloc::{AllocError, Allocator};
+use std::cmp::Ord;
+use std::marker::Model;
+use std::mem;
+
+mod append;
+mod capacity;
+mod ends;
+mod find;
+mod retain;
+mod spots;
+mod vacant;
+
+/// An ordered map over any allocator: a B-tree of two levels.
+///
+/// A contract sees a map as the list of its entries, in the order of the keys, and its capacity.
+///
+/// The entries are in leaves of one block, of at most 64 entries each, so that only `insert` and
+/// `reserve` allocate. Two neighbouring leaves have at least 64 entries together.
+pub struct OrderedMap<K: Ord, V, A: Allocator> {
+    pub(crate) leaves: Leaves<(K, V), A>,
+    pub(crate) len: usize,
+}
+
+impl<K: Ord, V, A: Allocator> Model for OrderedMap<K, V, A> {
+    ghost use Rattle.aa_ordered.specs.Entries.{OrderedView};
+
+    ghost Value = { OrderedView K V };
+
+    ghost use Rattle.aa_ordered.specs.Inside.{view_of, IsMap};
+
+    ghost view = { λ m. view_of m.leaves };
+
+    ghost invariant = { λ m. IsMap K.cmp m.leaves m.len };
+}
+
+impl<K: Ord + Drop, V: Drop, A: Allocator> Drop for OrderedMap<K, V, A> {
+    fn drop(self) {
+        let OrderedMap { leaves, len: _ } = self;
+        drop(leaves);
+    }
+}
+
+impl<K: Ord, V, A: Allocator> OrderedMap<K, V, A> {
+    ghost use Rattle.aa_ordered.specs.Leaves.{items};
+
+    // Consumes the map and returns its leaves.
+    pub(crate) fn into_leaves(self) -> Leaves<(K, V), A>
+        ensures entries { items result ≡ self.entries }
+        ensures ordered { IsOrdered K.cmp self.entries }
+    {
+        let OrderedMap { leaves, len: _ } = self;
+        leaves
+    }
+}
+
+impl<K: Ord, V, A: Allocator + Copy> OrderedMap<K, V, A> {
+    /// Returns an empty map.
+    ///
+    /// Does not allocate.
+    pub fn new_in(alloc: A) -> Self
+        ensures { result ≡ record { entries = []; capacity = 0 } }
+    {
+        OrderedMap {
+            leaves: Leaves::new_in(alloc, alloc),
+            len: 0,
+        }
+    }
+}
+
+impl<K: Ord, V, A: Allocator + Clone> OrderedMap<K, V, A> {
+    /// Like `new_in`, but for an allocator that is cloned, and may fail to be.
+    ///
+    /// # Errors
+    /// The error of `alloc.clone()`.
+    pub fn try_new_in(alloc: A) -> Result<Self, AllocError>
+        ensures { IfOk result (λ m. m ≡ record { entries = []; capacity = 0 }) }
+    {
+        let other = alloc.clone()?;
+        Ok(OrderedMap {
+            leaves: Leaves::new_in(alloc, other),
+            len: 0,
+        })
+    }
+}
+
+impl<K: Ord, V, A: Allocator> OrderedMap<K, V, A> {
+    ghost use Rattle.aa_ordered.specs.Lends.{lends_value};
+
+    /// Returns a reference to the underlying allocator.
+    pub fn allocator(&self) -> &A {
+        self.leaves.allocator()
+    }
+
+    /// Returns the number of entries.
+    pub fn len(&self) -> usize
+        ensures len { result ≡ length self.now.entries }
+        ensures ordered { IsOrdered K.cmp self.now.entries }
+    {
+        self.len
+    }
+
+    /// Returns `true` if the map has no entries.
+    pub fn is_empty(&self) -> bool
+        ensures { IsTrue result ↔ (self.now.entries ≡ []) }
+    {
+        self.len == 0
+    }
+
+    /// Returns the number of entries that the map can always hold without another allocation.
+    ///
+    /// Depending on their keys, it may hold up to twice as many.
+    pub fn capacity(&self) -> usize
+        ensures { result ≡ self.now.capacity }
+    {
+        let room = self.leaves.room();
+        if room == 0 {
+            return 0;
+        }
+        self.leaves.prove_bounds();
+        (room + 1) * 32
+    }
+
+    /// Returns a reference to the value of `key`, or `None` if the key is absent.
+    pub fn get(&self, key: &K) -> Option<&V>
+        ensures { option_copied result ≡ value K.cmp self.now.entries key.now }
+    {
+        match find(&self.leaves, key) {
+            Ok(spot) => Some(&self.leaves.list(spot.list)[spot.at].1),
+            Err(_) => None,
+        }
+    }
+
+    /// Returns references to the key that is equal to `key` and its value, or `None` if the key is
+    /// absent.
+    pub fn get_key_value(&self, key: &K) -> Option<(&K, &V)>
+        ensures { option_map (λ p. (p.0.now, p.1.now)) result
+            ≡ entry_of K.cmp self.now.entries key.now }
+    {
+        match find(&self.leaves, key) {
+            Ok(spot) => {
+                let entry = &self.leaves.list(spot.list)[spot.at];
+                Some((&entry.0, &entry.1))
+            }
+            Err(_) => None,
+        }
+    }
+
+    /// Returns `true` if the map has a value for `key`.
+    pub fn contains_key(&self, key: &K) -> bool
+        ensures { result ≡ is_some (value K.cmp self.now.entries key.now) }
+    {
+        self.get(key).is_some()
+    }
+
+    /// Returns a mutable reference to the value of `key`, or `None` if the key is absent.
+    pub fn get_mut(&mut self, key: &K) -> Option<&mut V>
+        ensures* writes_back { sem 𝓛 (lends_value K.row V.row A.row K.Ord A.Allocator self.entry
+            key.now result) }
+        ensures value { option_copied_mut result ≡ value K.cmp self.old.entries key.now }
+    {
+        match find(&self.leaves, key) {
+            Ok(spot) => Some(&mut self.leaves.item_mut(spot.list, spot.at).1),
+            Err(_) => None,
+        }
+    }
+}
+
+impl<K: Ord + Drop, V, A: Allocator + Clone> OrderedMap<K, V, A> {
+    /// Inserts `key` with the value `item`, and returns the old value of the key, if it had one.
+    ///
+    /// A key that is present remains, and `key` is dropped. Allocates only if the key is absent and
+    /// the map has as many entries as its capacity, or more, and then at least doubles the number
+    /// of leaves.
+    ///
+    /// # Errors
+    /// `CapacityOverflow` if the bytes exceed `isize::MAX`; `AllocError` with the number of entries
+    /// in the requested leaves if an allocation fails. The map is unchanged, and key and value are
+    /// returned in the error.
+    pub fn insert(&mut self, key: K, item: V) -> Result<Option<V>, Refused<(K, V)>>
+        // If the key is present, or there is capacity, it succeeds without an allocation.
+        ensures there { is_some (value K.cmp self.old.entries key) ≡ true → IsOk result }
+        ensures fits { length self.old.entries < self.old.capacity → IsOk result }
+
+        // On success, the key has the new value, and the old value is returned.
+        ensures old { IfOk result (λ old. old ≡ value K.cmp self.old.entries key) }
+        ensures inserted { OnOk result
+            (self.new.entries ≡ insert_entry K.cmp self.old.entries key item) }
+
+        // The capacity changes only by an allocation, and does not become less.
+        ensures kept { is_some (value K.cmp self.old.entries key) ≡ true
+            → self.new.capacity ≡ self.old.capacity }
+        ensures capacity { length self.old.entries < self.old.capacity
+            → self.new.capacity ≡ self.old.capacity }
+        ensures grown { self.old.capacity ≤ self.new.capacity }
+
+        // An error returns key and value, says why it failed, and leaves the map unchanged.
+        ensures returned { IfErr result (λ r. r.source ≡ (key, item)) }
+        ensures error { IfErr result (λ r. IsErrorFor r.error (requested self.old 1)) }
+        ensures unchanged { OnErr result (self.new ≡ self.old) }
+    {
+        match find(&self.leaves, &key) {
+            Ok(spot) => {
+                let value = &mut self.leaves.item_mut(spot.list, spot.at).1;
+                Ok(Some(mem::replace(value, item)))
+            }
+            Err(spot) => {
+                insert_at(&mut self.leaves, spot, (key, item))?;
+                self.leaves.prove_bounds();
+                self.len += 1;
+                Ok(None)
+            }
+        }
+    }
+}
+
+impl<K: Ord, V, A: Allocator> OrderedMap<K, V, A> {
+    /// Removes `key` and returns the key that was stored and its value, or `None` if it is absent.
+    ///
+    /// Does not allocate, and does not change the capacity.
+    pub fn remove_entry(&mut self, key: &K) -> Option<(K, V)>
+        ensures old { result ≡ entry_of K.cmp self.old.entries key.now }
+        ensures removed { self.new ≡ record {
+          entries = without K.cmp self.old.entries key.now;
+          capacity = self.old.capacity;
+        } }
+    {
+        match find(&self.leaves, key) {
+            Ok(spot) => {
+                let entry = remove_at(&mut self.leaves, spot);
+                self.len -= 1;
+                Some(entry)
+            }
+            Err(_) => None,
+        }
+    }
+}
+
+impl<K: Ord + Drop, V: Drop, A: Allocator> OrderedMap<K, V, A> {
+    /// Removes all entries, and drops them in the order of the keys.
+    ///
+    /// Does not change the capacity.
+    pub fn clear(&mut self)
+        ensures { self.new ≡ record { entries = []; capacity = self.old.capacity } }
+    {
+        self.leaves.clear();
+        self.len = 0;
+    }
+}
+
+impl<K: Ord + Drop, V, A: Allocator> OrderedMap<K, V, A> {
+    /// Removes `key` and returns its value, or `None` if the key is absent.
+    ///
+    /// Does not allocate, and does not change the capacity.
+    pub fn remove(&mut self, key: &K) -> Option<V>
+        ensures old { result ≡ value K.cmp self.old.entries key.now }
+        ensures removed { self.new ≡ record {
+          entries = without K.cmp self.old.entries key.now;
+          capacity = self.old.capacity;
+        } }
+    {
+        match self.remove_entry(key) {
+            Some((_, item)) => Some(item),
+            None => None,
+        }
+    }
+}

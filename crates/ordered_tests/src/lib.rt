@@ -1,0 +1,7 @@
+//! Tests of the ordered map. Not part of it.
+#![tactic(auto)]
+
+#[cfg(test)]
+mod iterators;
+#[cfg(test)]
+mod map;
