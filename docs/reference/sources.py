@@ -232,11 +232,20 @@ def passed_names(crate):
     return {name for text in lists for name in re.findall(r"\w+", text)}
 
 
+@functools.lru_cache(maxsize=None)
+def types_of(crate):
+    """The types of a crate, and those of them that can be named from outside."""
+    every, named = set(), set(passed_names(crate))
+    for module in modules(crate):
+        every |= set(re.findall(r"^(?:pub(?:\(crate\))? )?(?:struct|enum) (\w+)", text_of(module.file), re.M))
+        named |= set(re.findall(r"^pub (?:struct|enum) (\w+)", text_of(module.file), re.M)) if module.public else set()
+    return every, named
+
+
 def hidden_types(module):
-    """The types of a file that cannot be named from outside."""
-    text = text_of(module.file)
-    every = set(re.findall(r"^(?:pub(?:\(crate\))? )?(?:struct|enum) (\w+)", text, re.M))
-    return every - (set(re.findall(r"^pub (?:struct|enum) (\w+)", text, re.M)) if module.public else passed_names(module.crate))
+    """The types of its crate that cannot be named from outside."""
+    every, named = types_of(module.crate)
+    return every - named
 
 
 def open_sections(module):

@@ -16,7 +16,8 @@ COLLECTIONS = {
     "aa_ring": ("A queue with two ends", "EXAMPLES.html#a-ring"),
     "aa_inline": ("A small vector", "EXAMPLES.html#a-small-vector"),
     "aa_slots": ("A slot map", "EXAMPLES.html#a-slot-map"),
-    "ex_btree": ("An ordered map", "EXAMPLES.html#an-ordered-map"),
+    "aa_ordered": ("An ordered map", "EXAMPLES.html#an-ordered-map"),
+    "aa_heap": ("A priority queue", "EXAMPLES.html#a-heap"),
     "ex_small": ("An arena, a text builder, a line editor", "EXAMPLES.html#an-arena-by-handles"),
 }
 ALLOCATORS = {
