@@ -11,7 +11,7 @@ use crate::leaves::Leaves;
 use allocator_api2::collections::{Refused, TryReserveError};
 use find::find;
 use spots::{insert_at, remove_at};
-use std::alloc::{AllocError, Allocator};
+use std::alloc::{AllocError, Allocator, Global};
 use std::cmp::Ord;
 use std::marker::Model;
 use std::mem;
@@ -30,7 +30,7 @@ mod vacant;
 ///
 /// The entries are in leaves of one block, of at most 64 entries each, so that only `insert` and
 /// `reserve` allocate. Two neighbouring leaves have at least 64 entries together.
-pub struct OrderedMap<K: Ord, V, A: Allocator> {
+pub struct OrderedMap<K: Ord, V, A: Allocator = Global> {
     pub(crate) leaves: Leaves<(K, V), A>,
     pub(crate) len: usize,
 }
