@@ -5,7 +5,7 @@ use Rattle.std.specs.declared.cmp.Ordering.{Ordering}
 use Rattle.std.specs.declared.cmp.Ordering.TheVariants.{Less, Equal, Greater}
 use Rattle.std.specs.Ordering.{match_ordering}
 use Rattle.std.specs.BTreeMap.{insert_entry}
-use Rattle.aa_ordered.specs.Appending.{insert_all}
+use Rattle.aa_ordered.specs.Iterating.{insert_all}
 
 pub length-inserted : {K V : Type 0} (cmp : K → K → Ordering) (es : List (K × V)) (k : K) (v : V) → length (insert_entry cmp es k v) ≤ length es + 1
 length-inserted cmp [] k v = omega arith

@@ -16,7 +16,7 @@ module _ {K V : Type 0} (cmp : K → K → Ordering) (k : K) where
   found-head : (x : K × V) (es : List (K × V)) (at : ℕ) → IsFound cmp (x ∷ es) k (suc at) → cmp k x.0 ≡ Greater
   found-head x es at f = All-head (IsBelow cmp k) x (take at es) f.before
 
-  found-tail : (x : K × V) (es : List (K × V)) (at : ℕ) → IsFound cmp (x ∷ es) k (suc at) → IsFound cmp es k at
+  pub found-tail : (x : K × V) (es : List (K × V)) (at : ℕ) → IsFound cmp (x ∷ es) k (suc at) → IsFound cmp es k at
   found-tail x es at f = record { within = omega (arith, f.within); before = All-tail (IsBelow cmp k) x (take at es) f.before; equal = f.equal }
 
   gap-head : (x : K × V) (es : List (K × V)) (at : ℕ) → IsGap cmp (x ∷ es) k (suc at) → cmp k x.0 ≡ Greater
@@ -127,6 +127,9 @@ module _ {K V : Type 0} (cmp : K → K → Ordering) where
 
   pub ordered-written : (es : List (K × V)) (at : ℕ) (d : K × V) (v : V) → IsOrdered cmp es → IsOrdered cmp (slice_set es at ((get_or es at d).0, v))
   ordered-written es at d v s = rw (keys-written es at d v) s
+
+  pub found-keys : (k : K) (es : List (K × V)) (at : ℕ) (d : K × V) → IsFound cmp es k at → (v : V) → keys_of (insert_entry cmp es k v) ≡ keys_of es
+  found-keys k es at d f v = ap keys_of (found-inserted cmp k es at d v f) ∙ keys-written es at d v
 
   module _ (total : IsTotalOrder cmp) (k : K) (v : V) where
     pub ordered-inserted : (es : List (K × V)) (at : ℕ) → IsGap cmp es k at → IsOrdered cmp es → IsOrdered cmp (insert es at (k, v))

@@ -26,3 +26,4 @@ pub mod MapLent
 pub mod Revalued
 pub mod Taking
 pub mod Heads
+pub mod Splitting

@@ -2,12 +2,13 @@
 use Rattle.std.specs.Prelude.{◌≡◌, Option, Result}
 use Rattle.std.specs.Borrow.{Fml, RattleType, MutBor, Lends, LendsSoOk}
 use Rattle.std.specs.BTreeMap.{insert_entry}
+use Rattle.std.specs.Option.{option_map, unwrap_or}
 use Rattle.std.specs.declared.alloc.Allocator as alloc
 use Rattle.std.specs.declared.cmp.Ord as ord
 use Rattle.std.specs.declared.cmp.PartialEq as eq
 use Rattle.std.specs.declared.cmp.PartialOrd as partial
 use Rattle.std.specs.declared.cmp.Ordering.{Ordering}
-use Rattle.aa_ordered.specs.Entries.{value, OrderedView}
+use Rattle.aa_ordered.specs.Entries.{entry_of, value, OrderedView}
 use Rattle.aa_ordered.specs.Inserting.{Inserts}
 use Rattle.aa_ordered.specs.contracts.map.OrderedMap.{the_row}
 use Rattle.aa_ordered.specs.declared.entry.Entry.{Entry}
@@ -24,6 +25,12 @@ module _ {K V A : Type 0} {o : ord.Ghosts K} {e : eq.Ghosts K} {p : partial.Ghos
   abbrev pub entry_key : Entry K V A o e p → K
   entry_key (Occupied n) = n.key
   entry_key (Vacant n) = n.key
+
+  -- the stored key of the entry `n`, or the key for which it was made if none is stored
+  abbrev pub stored_key : Entry K V A o e p → K
+  stored_key (Occupied n) =
+      unwrap_or (option_map (λ x. x.0) (entry_of o.cmp n.map.now.entries n.key)) n.key
+  stored_key (Vacant n) = n.key
 
   -- the value of the key of the entry `n`
   abbrev pub entry_value : Entry K V A o e p → Option V

@@ -13,6 +13,6 @@ pub mod IterLends
 pub mod IterMut
 pub mod Retaining
 pub mod Inserting
+pub mod TryInserting
 pub mod Entry
 pub mod Taking
-pub mod Appending

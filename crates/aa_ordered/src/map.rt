@@ -21,6 +21,7 @@ mod capacity;
 mod ends;
 mod find;
 mod retain;
+mod split;
 mod spots;
 mod vacant;
 
@@ -33,6 +34,15 @@ mod vacant;
 pub struct OrderedMap<K: Ord, V, A: Allocator = Global> {
     pub(crate) leaves: Leaves<(K, V), A>,
     pub(crate) len: usize,
+}
+
+/// Why `try_insert` did not insert a key with its value, both of which it returns.
+#[derive(Drop)]
+pub enum TryInsertError<K, V> {
+    /// The key is present.
+    Occupied { key: K, value: V },
+    /// The key is absent, and the map could not reserve capacity.
+    Refused(Refused<(K, V)>),
 }
 
 impl<K: Ord, V, A: Allocator> Model for OrderedMap<K, V, A> {
@@ -90,10 +100,8 @@ impl<K: Ord, V, A: Allocator + Clone> OrderedMap<K, V, A> {
         ensures { IfOk result (λ m. m ≡ record { entries = []; capacity = 0 }) }
     {
         let other = alloc.clone()?;
-        Ok(OrderedMap {
-            leaves: Leaves::new_in(alloc, other),
-            len: 0,
-        })
+        let leaves = Leaves::new_in(alloc, other);
+        Ok(OrderedMap { leaves, len: 0 })
     }
 }
 

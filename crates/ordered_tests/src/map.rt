@@ -1,5 +1,5 @@
 //! Insertion, lookup and removal.
-use aa_ordered::map::OrderedMap;
+use aa_ordered::map::{OrderedMap, TryInsertError};
 use std::alloc::Global;
 use std::string::String;
 use std::test::Fail;
@@ -125,6 +125,29 @@ fn maps_are_joined(rt: HostRuntime) {
     assert!(rt; map.get(&99) == Some(&0) && map.get(&100) == Some(&1) && map.get(&249) == Some(&1));
 }
 
+// The keys from the one given on are in a map of their own then.
+#[test]
+fn a_map_is_split(rt: HostRuntime) {
+    for key in [0u64, 1, 63, 150, 299, 300] {
+        let heap = Faulty::new(rt.alloc());
+        let mut map = none(&heap);
+        assert!(rt; takes(&mut map, 167));
+        heap.fail_requests(0, 1);
+        assert!(rt; map.split_off(&150).is_err() && map.len() == 300);
+        let Ok(rest) = map.split_off(&key) else {
+            assert!(rt; false);
+            return;
+        };
+        let half = key / 2;
+        let first = if key < 300 { Some((&key, &half)) } else { None };
+        assert!(rt; rest.first_key_value() == first && rest.len() as u64 == 300 - key);
+        assert!(rt; is_sorted(&mut map, key));
+        drop(map);
+        drop(rest);
+        assert!(rt; heap.outstanding() == 0);
+    }
+}
+
 // Adds to the value of a key, which is 0 if the key is absent.
 fn adds(map: &mut Small<'_>, key: u64, count: u64) -> bool {
     match map.entry(key).or_insert(0) {
@@ -144,6 +167,49 @@ fn entries_insert_and_change(rt: HostRuntime) {
         assert!(rt; adds(&mut map, key % 100, key));
     }
     assert!(rt; map.len() == 100 && map.get(&7) == Some(&114));
+}
+
+// Adds to the value of a key that is present, and inserts 0 otherwise. Returns the value then.
+fn added(map: &mut Small<'_>, key: u64, count: u64) -> Option<u64> {
+    let entry = map
+        .entry(key)
+        .and_modify(|value| *value = value.wrapping_add(count));
+    if *entry.key() != key {
+        return None;
+    }
+    Some(*entry.or_default().ok()?)
+}
+
+#[test]
+fn entries_are_modified_or_take_defaults(rt: HostRuntime) {
+    let heap = Faulty::new(rt.alloc());
+    let mut map = none(&heap);
+    for key in 0u64..200 {
+        let value = if key < 100 { 0 } else { key };
+        assert!(rt; added(&mut map, key % 100, key) == Some(value));
+    }
+    assert!(rt; map.len() == 100 && map.get(&7) == Some(&107));
+}
+
+// Inserts a key that is absent. Returns its value, or what the error returns and whether the key is
+// present.
+fn put_new(map: &mut Small<'_>, key: u64, value: u64) -> Result<u64, (u64, u64, bool)> {
+    match map.try_insert(key, value) {
+        Ok(value) => Ok(*value),
+        Err(TryInsertError::Occupied { key, value }) => Err((key, value, true)),
+        Err(TryInsertError::Refused(back)) => Err((back.source.0, back.source.1, false)),
+    }
+}
+
+#[test]
+fn a_value_is_not_replaced(rt: HostRuntime) {
+    let heap = Faulty::new(rt.alloc());
+    let mut map = none(&heap);
+    heap.fail_requests(0, 1);
+    assert!(rt; put_new(&mut map, 3, 1) == Err((3, 1, false)) && map.is_empty());
+    assert!(rt; put_new(&mut map, 3, 1) == Ok(1) && map.get(&3) == Some(&1));
+    assert!(rt; put_new(&mut map, 3, 2) == Err((3, 2, true)) && map.get(&3) == Some(&1));
+    assert!(rt; map.len() == 1 && heap.failures() == 1);
 }
 
 #[test]

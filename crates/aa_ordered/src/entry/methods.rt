@@ -1,17 +1,21 @@
 //! `OrderedMap::entry`, and the calls of an entry.
-ghost use Rattle.std.specs.Prelude.{◌≡◌, ◌<◌, is_some, length, option_map, true, None, Some, IfErr, IfOk, IsOk, OnErr};
-ghost use Rattle.std.specs.Borrow.{sem};
+ghost use Rattle.std.specs.Prelude.{◌≡◌, ◌<◌, is_some, length, option_map, true, None, Some, IfErr, IfOk, IfSome, IsOk, MatchOption, OnErr};
+ghost use Rattle.std.specs.Borrow.{sem, MutBor};
+ghost use Rattle.std.specs.Map.{keys_of};
+ghost use Rattle.std.specs.Map.Calls.{ModifiesValue};
 ghost use Rattle.std.specs.Option.{unwrap_or, UnwrapsOrElse};
 ghost use Rattle.allocator_api2.specs.Errors.{IsErrorFor};
 ghost use Rattle.aa_ordered.specs.Capacity.{requested};
-ghost use Rattle.aa_ordered.specs.Entries.{entry_of, value};
-ghost use Rattle.aa_ordered.specs.Entry.{Occupied, Vacant, entry_key, entry_map, entry_value, lends_entry, lends_occupied, writes, MatchEntry};
+ghost use Rattle.aa_ordered.specs.Entries.{entry_of, value, OrderedView};
+ghost use Rattle.aa_ordered.specs.Entry.{Occupied, Vacant, entry_key, entry_map, entry_value, lends_entry, lends_occupied, stored_key, writes, MatchEntry};
+ghost use Rattle.aa_ordered.specs.Inserting.{Inserts};
 
 use super::{Entry, OccupiedEntry, VacantEntry};
 use crate::map::OrderedMap;
 use allocator_api2::collections::Refused;
 use std::alloc::Allocator;
 use std::cmp::Ord;
+use std::default::Default;
 use std::mem;
 
 impl<K: Ord + Drop, V: Drop, A: Allocator + Clone> OrderedMap<K, V, A> {
@@ -57,6 +61,27 @@ impl<'a, K: Ord + Drop, V: Drop, A: Allocator + Clone> OccupiedEntry<'a, K, V, A
             Some(value) => value,
             None => unreachable!(),
         }
+    }
+
+    /// Calls `f` with a mutable reference to the value.
+    ///
+    /// Not in std, whose `get_mut` returns the reference.
+    pub fn modify<F: FnOnce(&mut V)>(&mut self, f: F)
+        requires callable { (p : MutBor V) → entry_value (Occupied self.old) ≡ Some p.now
+            → F.pre f p }
+
+        // It is an entry of the same map and key.
+        ensures lender { self.new.map.ghost_name ≡ self.old.map.ghost_name }
+        ensures key { self.new.key ≡ self.old.key }
+
+        // Its value is what the call left, and the map has it. The keys do not change.
+        ensures called { ModifiesValue F.FnOnce f (entry_value (Occupied self.old))
+            (entry_value (Occupied self.new)) }
+        ensures written { IfSome (entry_value (Occupied self.new))
+            (λ v. self.new.map.now ≡ writes K.cmp self.old.map.now self.old.key v) }
+        ensures keys { keys_of self.new.map.now.entries ≡ keys_of self.old.map.now.entries }
+    {
+        f(self.map.stored_mut(&self.key));
     }
 
     /// Consumes the entry and returns a mutable reference to the value in the map.
@@ -130,6 +155,16 @@ impl<'a, K: Ord + Drop, V: Drop, A: Allocator + Clone> VacantEntry<'a, K, V, A> 
 }
 
 impl<'a, K: Ord + Drop, V: Drop, A: Allocator + Clone> Entry<'a, K, V, A> {
+    /// Returns a reference to the stored key, or to the one that was passed if none is stored.
+    pub fn key(&self) -> &K
+        ensures { result.now ≡ stored_key self.now }
+    {
+        match self {
+            Entry::Occupied(entry) => entry.key(),
+            Entry::Vacant(entry) => entry.key(),
+        }
+    }
+
     /// Inserts `default` if the key is absent, and returns a mutable reference to the value.
     ///
     /// When the borrow ends, the key has the last value written to it. Allocates only if the key is
@@ -195,6 +230,67 @@ impl<'a, K: Ord + Drop, V: Drop, A: Allocator + Clone> Entry<'a, K, V, A> {
         match self {
             Entry::Occupied(entry) => Ok(entry.into_mut()),
             Entry::Vacant(entry) => entry.insert(default()),
+        }
+    }
+
+    /// Like `or_insert`, but inserts the default value of its type.
+    ///
+    /// # Errors
+    /// The errors of `OrderedMap::insert`. The map is unchanged, and key and value are returned in
+    /// the error.
+    pub fn or_default(self) -> Result<&'a mut V, Refused<(K, V)>>
+    where
+        V: Default,
+        // If there is capacity, it succeeds.
+        ensures fits { let map = (entry_map self.entry).now in
+            length map.entries < map.capacity → IsOk result }
+
+        // When the borrow ends, the key has the last value written to it. An error leaves the map
+        // unchanged.
+        ensures* writes_back { sem 𝓛 (lends_entry K.row V.row A.row A.Allocator self.entry
+            result) }
+        ensures value { IfOk result
+            (λ v. UnwrapsOrElse (entry_value self.entry) V.is_default v.now) }
+
+        // An error returns key and value, and says why it failed.
+        ensures returned { IfErr result
+            (λ r. (r.source.0 ≡ entry_key self.entry) × V.is_default r.source.1) }
+        ensures absent { OnErr result (entry_value self.entry ≡ None) }
+        ensures error { IfErr result
+            (λ r. IsErrorFor r.error (requested (entry_map self.entry).now 1)) }
+    {
+        match self {
+            Entry::Occupied(entry) => Ok(entry.into_mut()),
+            Entry::Vacant(entry) => entry.insert(V::default()),
+        }
+    }
+
+    /// Calls `f` with a mutable reference to the value if the key is present, and returns the entry.
+    pub fn and_modify<F: FnOnce(&mut V) + Drop>(self, f: F) -> Entry<'a, K, V, A>
+        requires callable { (p : MutBor V) → entry_value self ≡ Some p.now → F.pre f p }
+
+        // It is an entry of the same map and key.
+        ensures lender { (entry_map result).ghost_name ≡ (entry_map self.entry).ghost_name }
+        ensures key { entry_key result ≡ entry_key self.entry }
+
+        // Its value is what the call left, and the map has it. An absent key changes nothing.
+        ensures called { ModifiesValue F.FnOnce f (entry_value self.entry) (entry_value result) }
+        ensures after { MatchOption (entry_value result)
+            ((entry_map result).now ≡ (entry_map self.entry).now)
+            (λ v. (entry_map result).now
+            ≡ writes K.cmp (entry_map self.entry).now (entry_key self.entry) v) }
+
+        // What is written through it is as if it was written through the entry before.
+        ensures update { (v : V) (u : OrderedView K V)
+            → Inserts K.cmp (entry_map result).now (entry_key result) v u
+            → Inserts K.cmp (entry_map self.entry).now (entry_key self.entry) v u }
+    {
+        match self {
+            Entry::Occupied(mut entry) => {
+                entry.modify(f);
+                Entry::Occupied(entry)
+            }
+            Entry::Vacant(entry) => Entry::Vacant(entry),
         }
     }
 }

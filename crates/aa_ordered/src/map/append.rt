@@ -2,7 +2,7 @@
 ghost use Rattle.std.specs.Prelude.{◌≡◌, ◌+◌, ◌<◌, ◌≤◌, [], length, IfErr, IsOk, OnErr, OnOk};
 ghost use Rattle.std.specs.BTreeMap.{insert_entry};
 ghost use Rattle.allocator_api2.specs.Errors.{IsErrorFor};
-ghost use Rattle.aa_ordered.specs.Appending.{insert_all};
+ghost use Rattle.aa_ordered.specs.Iterating.{insert_all};
 ghost use Rattle.aa_ordered.specs.Capacity.{requested, reserved_capacity};
 
 use super::OrderedMap;
@@ -12,7 +12,7 @@ use std::cmp::Ord;
 
 impl<K: Ord + Drop, V: Drop, A: Allocator + Clone> OrderedMap<K, V, A> {
     // Inserts `key` with the value `item`, where there is capacity.
-    fn put_within(&mut self, key: K, item: V)
+    pub(crate) fn put_within(&mut self, key: K, item: V)
         requires { length self.old.entries < self.old.capacity }
         ensures inserted { self.new.entries ≡ insert_entry K.cmp self.old.entries key item }
         ensures capacity { self.new.capacity ≡ self.old.capacity }

@@ -13,8 +13,8 @@ impl<K: Ord, V, A: Allocator> OrderedMap<K, V, A> {
     {
         match first_spot(&self.leaves) {
             Some(spot) => {
-                let entry = &self.leaves.list(spot.list)[spot.at];
-                Some((&entry.0, &entry.1))
+                let first = &self.leaves.list(spot.list)[spot.at];
+                Some((&first.0, &first.1))
             }
             None => None,
         }
@@ -27,8 +27,8 @@ impl<K: Ord, V, A: Allocator> OrderedMap<K, V, A> {
     {
         match last_spot(&self.leaves) {
             Some(spot) => {
-                let entry = &self.leaves.list(spot.list)[spot.at];
-                Some((&entry.0, &entry.1))
+                let last = &self.leaves.list(spot.list)[spot.at];
+                Some((&last.0, &last.1))
             }
             None => None,
         }
@@ -44,9 +44,9 @@ impl<K: Ord, V, A: Allocator> OrderedMap<K, V, A> {
     {
         match first_spot(&self.leaves) {
             Some(spot) => {
-                let entry = remove_at(&mut self.leaves, spot);
+                let first = remove_at(&mut self.leaves, spot);
                 self.len -= 1;
-                Some(entry)
+                Some(first)
             }
             None => None,
         }
@@ -64,9 +64,9 @@ impl<K: Ord, V, A: Allocator> OrderedMap<K, V, A> {
     {
         match last_spot(&self.leaves) {
             Some(spot) => {
-                let entry = remove_at(&mut self.leaves, spot);
+                let last = remove_at(&mut self.leaves, spot);
                 self.len -= 1;
-                Some(entry)
+                Some(last)
             }
             None => None,
         }

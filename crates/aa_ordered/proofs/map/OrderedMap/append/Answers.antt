@@ -1,5 +1,5 @@
 use Rattle.std.proofs.Common.{ap, ◌∙◌}
-use Rattle.aa_ordered.specs.Appending.{insert_all}
+use Rattle.aa_ordered.specs.Iterating.{insert_all}
 use Rattle.aa_ordered.specs.Entries.{OrderedView}
 use Rattle.aa_ordered.proofs.Appending.{step-all, step-room}
 use Rattle.aa_ordered.proofs.map.OrderedMap.append.Goals as goal

@@ -1,5 +1,5 @@
 use Rattle.std.proofs.Common.{◌≡◌, ◌+◌, ◌≤◌, length}
-use Rattle.aa_ordered.specs.Appending.{insert_all}
+use Rattle.aa_ordered.specs.Iterating.{insert_all}
 use Rattle.aa_ordered.specs.Capacity.{reserved_capacity}
 use Rattle.aa_ordered.proofs.map.OrderedMap.append.Given as goal
 

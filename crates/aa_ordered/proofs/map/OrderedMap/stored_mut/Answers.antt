@@ -1,7 +1,10 @@
-use Rattle.std.proofs.Common.{ap, refl, sym, ◌∙◌}
+use Rattle.std.proofs.Common.{ap, refl, subst, sym, ◌≡◌, ◌∙◌}
 use Rattle.std.specs.BTreeMap.{insert_entry}
+use Rattle.std.specs.Map.{keys_of}
+use Rattle.aa_ordered.specs.Balance.{joined}
 use Rattle.aa_ordered.specs.Capacity.{capacity_of}
 use Rattle.aa_ordered.specs.Entries.{value, OrderedView}
+use Rattle.aa_ordered.proofs.Found.{found-keys}
 use Rattle.aa_ordered.proofs.Reading.{got-value, written-inserted, written-map}
 use Rattle.aa_ordered.proofs.Sound.{absent-never}
 use Rattle.aa_ordered.proofs.map.OrderedMap.stored_mut.Goals as goal
@@ -26,5 +29,7 @@ returns g c =
         writes_back = tt;
         value = sym (got-value g.K.Ord.cmp k c.self.inside.leaves.lists spot.list spot.at c.in-Ok.ensures.item c.in-Ok.ensures.found c.item_mut.result.now c.item_mut.ensures.value
             ∙ ap (λ (m : OrderedView g.row.K.Denot g.row.V.Denot). value g.K.Ord.cmp m.entries k) c.self.view_is);
+        keys = subst (λ (m : OrderedView g.row.K.Denot g.row.V.Denot). (v : g.row.V.Denot) → keys_of (insert_entry g.K.Ord.cmp m.entries k v) ≡ keys_of m.entries) c.self.view_is
+            (found-keys g.K.Ord.cmp k (joined c.self.inside.leaves.lists) _ c.item_mut.result.now c.in-Ok.ensures.found);
       },
     )
