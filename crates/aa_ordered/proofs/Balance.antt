@@ -1,6 +1,7 @@
 -- Lists of numbers in which neighbours are together at least 64.
 use Rattle.std.proofs.Common.{◌≡◌, ◌+◌, ◌-◌, ◌*◌, ◌≤◌, ◌<◌, ◌++◌, ℕ, suc, zero, List, [], ◌∷◌, All, inl, inr, refl, arith, length, take, drop, get_or, ap, ◌∙◌, length-append}
 use Rattle.std.proofs.lemmas.Bool.{cases_lt}
+use Rattle.std.proofs.lemmas.List.{length-map}
 use Rattle.std.proofs.lemmas.List.Elements.{All-head, All-tail}
 use Rattle.aa_ordered.specs.Balance.{first, joined, last, lengths, IsBalanced}
 
@@ -64,6 +65,12 @@ half-last (n ∷ m ∷ k ∷ ns) b h = elim (cases_lt n 32) [
   | inl l ↦ let r = half-last (k ∷ ns) b.2.2 h in omega (arith, r, b.1)
   | inr g ↦ let r = half-last (m ∷ k ∷ ns) b.2 h in omega (arith, r, g)
 ]
+
+-- each is on average at least 32, but for one of them
+half-all : (ns : List ℕ) → IsBalanced ns → 32 * length ns ≤ total ns + 31
+half-all [] b = omega arith
+half-all (n ∷ []) b = omega (arith, b)
+half-all (n ∷ m ∷ ns) b = let r = half-all ns (balanced-tail m ns b.2) in omega (arith, r, b.1)
 
 total-append : (xs ys : List ℕ) → total (xs ++ ys) ≡ total xs + total ys
 total-append [] ys = omega arith
@@ -164,3 +171,6 @@ total-joined (l ∷ ls) = length-append l (joined ls) ∙ ap (λ n. length l + n
 pub at-most : {T : Type 0} (ls : List (List T)) → All (λ l. length l ≤ 64) ls → length (joined ls) ≤ 64 * length ls
 at-most [] h = omega arith
 at-most (l ∷ ls) h = omega (arith, length-append l (joined ls), at-most ls (All-tail (λ l. length l ≤ 64) l ls h), All-head (λ l. length l ≤ 64) l ls h)
+
+pub at-least : {T : Type 0} (ls : List (List T)) → IsBalanced (lengths ls) → 32 * length ls ≤ length (joined ls) + 31
+at-least ls b = omega (arith, half-all (lengths ls) b, total-joined ls, length-map ls length)

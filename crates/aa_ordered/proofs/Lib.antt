@@ -2,6 +2,7 @@ pub mod Arena
 pub mod Order
 pub mod Found
 pub mod Balance
+pub mod Fitting
 pub mod Flat
 pub mod Placing
 pub mod Reading

@@ -1,5 +1,7 @@
 -- The capacity of an ordered map, and the allocations that it requests.
-use Rattle.std.specs.Prelude.{ℕ, ◌+◌, ◌-◌, ◌*◌, ◌/◌, ◌==◌, if◌then◌else◌, length, max, nat_le}
+use Rattle.std.specs.Prelude.{◌≡◌, ℕ, ◌+◌, ◌-◌, ◌*◌, ◌/◌, ◌%◌, ◌<◌, ◌≤◌, ◌==◌, if◌then◌else◌, length, max, nat_le}
+use Rattle.allocator_api2.specs.declared.collections.TryReserveError.{TryReserveError}
+use Rattle.allocator_api2.specs.declared.collections.TryReserveErrorKind.TheVariants.{CapacityOverflow, AllocError}
 use Rattle.aa_ordered.specs.Entries.{OrderedView}
 
 -- the number of entries that a map with `leaves` leaves can always hold
@@ -13,6 +15,14 @@ leaves_of capacity = capacity / 32 - 1
 -- the least number of leaves with capacity for `n` entries
 abbrev pub leaves_for : (n : ℕ) → ℕ
 leaves_for n = if n == 0 then 0 else max 1 ((n - 1) / 32)
+
+-- `e` is an `AllocError` with the number of places in some leaves, at least `n` and less than `m`
+abbrev pub IsAllocErrorWithin : TryReserveError → (n m : ℕ) → Type 0
+IsAllocErrorWithin e n m =
+    elim e.kind as (λ _. Type 0) [
+      | CapacityOverflow ↦ ⊥
+      | AllocError places ↦ (places % 64 ≡ 0) × (n ≤ places) × (places < m)
+    ]
 
 module _ {K V : Type 0} where
   -- the number of leaves that the map `m` requests for `k` more entries: at least twice as many

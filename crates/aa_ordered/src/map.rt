@@ -29,8 +29,8 @@ mod vacant;
 ///
 /// A contract sees a map as the list of its entries, in the order of the keys, and its capacity.
 ///
-/// The entries are in leaves of one block, of at most 64 entries each, so that only `insert` and
-/// `reserve` allocate. Two neighbouring leaves have at least 64 entries together.
+/// The entries are in leaves of one block, of at most 64 entries each, so that no leaf is an
+/// allocation of its own. Two neighbouring leaves have at least 64 entries together.
 pub struct OrderedMap<K: Ord, V, A: Allocator = Global> {
     pub(crate) leaves: Leaves<(K, V), A>,
     pub(crate) len: usize,

@@ -226,6 +226,42 @@ fn capacity_takes_any_keys(rt: HostRuntime) {
     }
 }
 
+// Whether the keys below 1,000 go in, and then nine of ten are removed.
+fn leaves_a_tenth(map: &mut Small<'_>) -> bool {
+    let mut all = true;
+    for key in 0u64..1000 {
+        all = put(map, key, key / 2) == Ok(None) && all;
+    }
+    for key in 0u64..1000 {
+        if key % 10 > 0 {
+            all = map.remove(&key) == Some(key / 2) && all;
+        }
+    }
+    all
+}
+
+// The leaves without entries are freed. A failed request changes nothing.
+#[test]
+fn capacity_shrinks_to_fit(rt: HostRuntime) {
+    let heap = Faulty::new(rt.alloc());
+    let mut map = none(&heap);
+    assert!(rt; leaves_a_tenth(&mut map) && map.len() == 100);
+    let before = map.capacity();
+    heap.fail_requests(0, 1);
+    assert!(rt; map.shrink_to_fit().is_err() && map.capacity() == before && map.len() == 100);
+    assert!(rt; before >= 500 && map.get(&990) == Some(&495));
+    assert!(rt; map.shrink_to_fit().is_ok() && map.capacity() < 164 && map.len() == 100);
+    for key in 0u64..1000 {
+        assert!(rt; map.get(&key).is_some() == (key % 10 == 0));
+    }
+    let requests = heap.requests();
+    assert!(rt; map.shrink_to_fit().is_ok() && heap.requests() == requests);
+    for key in 0u64..100 {
+        assert!(rt; map.pop_first() == Some((key * 10, key * 5)));
+    }
+    assert!(rt; map.shrink_to_fit().is_ok() && map.capacity() == 0 && heap.outstanding() == 0);
+}
+
 #[test]
 fn a_failed_call_changes_nothing(rt: HostRuntime) {
     // Each request for memory of the first keys fails in turn.

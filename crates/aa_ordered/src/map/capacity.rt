@@ -1,7 +1,7 @@
 //! The capacity of a map.
-ghost use Rattle.std.specs.Prelude.{◌≡◌, ◌+◌, ◌*◌, ◌≤◌, [], length, IfErr, IfOk, IsOk, OnErr, OnOk};
+ghost use Rattle.std.specs.Prelude.{◌≡◌, ◌+◌, ◌*◌, ◌<◌, ◌≤◌, [], length, IfErr, IfOk, IsOk, OnErr, OnOk};
 ghost use Rattle.allocator_api2.specs.Errors.{IsErrorFor};
-ghost use Rattle.aa_ordered.specs.Capacity.{capacity_of, leaves_for, requested, reserved_capacity};
+ghost use Rattle.aa_ordered.specs.Capacity.{capacity_of, leaves_for, leaves_of, requested, reserved_capacity, IsAllocErrorWithin};
 
 use super::OrderedMap;
 use allocator_api2::collections::{TryReserveError, TryReserveErrorKind};
@@ -49,6 +49,38 @@ impl<K: Ord, V, A: Allocator + Clone> OrderedMap<K, V, A> {
         }
         self.leaves
             .try_reserve(leaves_for(count) - self.leaves.len())
+    }
+
+    /// Reduces the capacity as much as possible.
+    ///
+    /// It is then less than the number of entries plus 64, and 0 if the map is empty.
+    ///
+    /// Allocates only if there are entries and free leaves: a new block over a clone of the
+    /// allocator, to which the entries move.
+    ///
+    /// # Errors
+    /// `AllocError` with the number of entries in the requested leaves if an allocation fails. The
+    /// map is unchanged.
+    pub fn shrink_to_fit(&mut self) -> Result<(), TryReserveError>
+        // If the entries fit in no fewer leaves, it succeeds without an allocation.
+        ensures fits { leaves_of self.old.capacity * 64 < length self.old.entries + 64
+            → IsOk result }
+
+        // The entries do not change, and the capacity does not become more.
+        ensures entries { self.new.entries ≡ self.old.entries }
+        ensures capacity { self.new.capacity ≤ self.old.capacity }
+        ensures shrunk { OnOk result (self.new.capacity < length self.old.entries + 64) }
+        ensures none { OnOk result (self.old.entries ≡ [] → self.new.capacity ≡ 0) }
+
+        // An error says how many places were requested, and leaves the map unchanged.
+        ensures error { let n = length self.old.entries in
+            IfErr result (λ e. IsAllocErrorWithin e n (2 * n + 64)) }
+        ensures fewer { let n = length self.old.entries in
+            IfErr result (λ e. IsAllocErrorWithin e n (leaves_of self.old.capacity * 64)) }
+        ensures unchanged { OnErr result (self.new ≡ self.old) }
+    {
+        self.leaves.prove_bounds();
+        self.leaves.shrink_to(0)
     }
 }
 
