@@ -4,6 +4,7 @@ ghost use Rattle.std.specs.Map.{keys_of};
 
 use aa_ordered::map::OrderedMap;
 use std::alloc::{Allocator, Global};
+use std::hash::{DefaultHasher, Hash, Hasher};
 use std::ops::Bound;
 use test_allocators::Faulty;
 
@@ -144,4 +145,18 @@ fn a_map_is_formatted(rt: HostRuntime) {
         Ok(text) => assert!(rt; text.as_str() == "{0: 0, 3: 1, 6: 3}"),
         Err(_) => assert!(rt; false),
     }
+}
+
+fn hash_of<T: Hash>(value: &T) -> u64 {
+    let mut hasher = DefaultHasher::new();
+    value.hash(&mut hasher);
+    hasher.finish()
+}
+
+#[test]
+fn maps_hash_as_their_pairs(rt: HostRuntime) {
+    let heap = Faulty::new(rt.alloc());
+    let map = threes(&heap, 4);
+    let (pairs, others): (&[(u64, u64)], &[(u64, u64)]) = (&[(0, 0), (3, 1)], &[(0, 0), (3, 2)]);
+    assert!(rt; hash_of(&map) == hash_of(&pairs) && hash_of(&map) != hash_of(&others));
 }

@@ -1,5 +1,6 @@
 //! Insertion, lookup and removal.
 use aa_ordered::map::{OrderedMap, TryInsertError};
+use allocator_api2::collections::TryReserveErrorKind;
 use std::alloc::Global;
 use std::string::String;
 use std::test::Fail;
@@ -295,4 +296,21 @@ fn keys_may_own_memory(rt: HostRuntime) -> Result<(), Fail> {
     assert!(rt; map.get(&key) == None && map.len() == 199);
     assert!(rt; map.insert(key, 3).is_ok() && map.len() == 200);
     Ok(())
+}
+
+// Whether a reserve of so many fails with no request.
+fn is_past_the_limits(map: &mut Small<'_>, additional: usize) -> bool {
+    match map.reserve(additional) {
+        Ok(()) => false,
+        Err(error) => error.kind() == TryReserveErrorKind::CapacityOverflow,
+    }
+}
+
+#[test]
+fn no_map_grows_past_the_limits(rt: HostRuntime) {
+    let heap = Faulty::new(rt.alloc());
+    let mut map = none(&heap);
+    for additional in [1 << 60, usize::MAX] {
+        assert!(rt; is_past_the_limits(&mut map, additional) && heap.requests() == 0);
+    }
 }
