@@ -1,6 +1,7 @@
 //! The errors returned by calls that allocate.
 ghost use Rattle.std.specs.Prelude.{◌≡◌, Some};
 ghost use Rattle.std.specs.Mem.{type_size};
+ghost use Rattle.std.specs.IoError.{error_kind};
 ghost use Rattle.aa_raw.specs.Errors.{error_for, text_of};
 
 use crate::size::{fits_in_block, is_zst};
@@ -8,6 +9,7 @@ use std::alloc::AllocError;
 use std::convert::From;
 use std::error::Error;
 use std::fmt;
+use std::io::{self, ErrorKind};
 
 /// Why a reserve failed.
 ///
@@ -94,6 +96,17 @@ impl fmt::Display for TryReserveError {
 
 impl Error for TryReserveError {}
 
+impl From<TryReserveError> for io::Error {
+    ghost from_gives = { λ _ e. error_kind e ≡ ErrorKind.OutOfMemory };
+
+    /// Returns an error of the kind `OutOfMemory`.
+    ///
+    /// With it, `?` works in a function that reads or writes as well as reserves.
+    fn from(_: TryReserveError) -> io::Error {
+        ErrorKind::OutOfMemory.into()
+    }
+}
+
 /// The error of a call that takes a value: returns the value in `source`.
 ///
 /// `?` returns it as it is, or as the error alone in a function that returns a `TryReserveError`.
@@ -112,5 +125,14 @@ impl<S: Drop> From<Refused<S>> for TryReserveError {
     /// Drops `source` and returns the error, so that `?` works.
     fn from(refused: Refused<S>) -> TryReserveError {
         refused.error
+    }
+}
+
+impl<S: Drop> From<Refused<S>> for io::Error {
+    ghost from_gives = { λ _ e. error_kind e ≡ ErrorKind.OutOfMemory };
+
+    /// Drops `source` and returns an error of the kind `OutOfMemory`, so that `?` works.
+    fn from(_: Refused<S>) -> io::Error {
+        ErrorKind::OutOfMemory.into()
     }
 }

@@ -253,6 +253,7 @@ impl<T, A: Allocator> Vec<T, A> {
             (λ y. self.old.items ≡ self.new.items ++ y ∷ []) }
         ensures empty { IfNone result (self.new ≡ self.old) }
         ensures popped { Becomes self.old self.new.items 0 0 self.new }
+        ensures room { IfSome result (λ _. HasRoom self.new 1) }
     {
         if self.len == 0 {
             return None;

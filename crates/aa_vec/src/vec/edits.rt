@@ -83,6 +83,7 @@ impl<T, A: Allocator> Vec<T, A> {
         ensures value { slice_get self.old.items index ≡ Some result }
         ensures removed { let moved = length self.old.items - index - 1 in
             Becomes self.old (remove self.old.items index) moved (run_count moved) self.new }
+        ensures room { HasRoom self.new 1 }
     {
         let last = self.len - 1;
         let value = self.block.take(index);
@@ -101,6 +102,7 @@ impl<T, A: Allocator> Vec<T, A> {
         ensures value { slice_get self.old.items index ≡ Some result }
         ensures removed { let moved = run_count (length self.old.items - index - 1) in
             Becomes self.old (swap_remove self.old.items index result) moved moved self.new }
+        ensures room { HasRoom self.new 1 }
     {
         let last = self.len - 1;
         if index == last {
