@@ -2,6 +2,7 @@
 ghost use Rattle.std.specs.Prelude.{◌≡◌, Some};
 ghost use Rattle.std.specs.Mem.{type_size};
 ghost use Rattle.std.specs.IoError.{error_kind};
+ghost use Rattle.std.specs.declared.io.kind.ErrorKind.TheVariants.{OutOfMemory};
 ghost use Rattle.aa_raw.specs.Errors.{error_for, text_of};
 
 use crate::size::{fits_in_block, is_zst};
@@ -97,7 +98,7 @@ impl fmt::Display for TryReserveError {
 impl Error for TryReserveError {}
 
 impl From<TryReserveError> for io::Error {
-    ghost from_gives = { λ _ e. error_kind e ≡ ErrorKind.OutOfMemory };
+    ghost from_gives = { λ _ e. error_kind e ≡ OutOfMemory };
 
     /// Returns an error of the kind `OutOfMemory`.
     ///
@@ -129,7 +130,7 @@ impl<S: Drop> From<Refused<S>> for TryReserveError {
 }
 
 impl<S: Drop> From<Refused<S>> for io::Error {
-    ghost from_gives = { λ _ e. error_kind e ≡ ErrorKind.OutOfMemory };
+    ghost from_gives = { λ _ e. error_kind e ≡ OutOfMemory };
 
     /// Drops `source` and returns an error of the kind `OutOfMemory`, so that `?` works.
     fn from(_: Refused<S>) -> io::Error {

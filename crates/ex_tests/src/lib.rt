@@ -9,8 +9,6 @@ mod callers;
 #[cfg(test)]
 mod cases;
 #[cfg(test)]
-mod inline;
-#[cfg(test)]
 mod layers;
 #[cfg(test)]
 mod ledgers;
@@ -19,18 +17,10 @@ mod memory;
 #[cfg(test)]
 mod recycler;
 #[cfg(test)]
-mod ring;
-#[cfg(test)]
-mod set;
-#[cfg(test)]
-mod slots;
-#[cfg(test)]
 mod small;
 #[cfg(test)]
 mod spaced;
 #[cfg(test)]
 mod stress;
-#[cfg(test)]
-mod table;
 #[cfg(test)]
 mod trees;

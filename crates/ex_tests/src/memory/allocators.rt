@@ -1,6 +1,5 @@
 //! Allocators over one that counts: what they pass on, and that it is freed.
 use crate::allocators::has_room;
-use crate::memory::is_all_freed;
 use aa_allocators::fallback::Fallback;
 use aa_allocators::guarded::Guarded;
 use aa_allocators::pool::Pool;
@@ -14,6 +13,7 @@ use aa_watched::budget::Budget;
 use aa_watched::counting::Counting;
 use std::alloc::{Allocator, Global};
 use test_allocators::Faulty;
+use test_allocators::ends::is_all_freed;
 
 // An allocator over another.
 #[derive(Clone, Copy)]

@@ -1,5 +1,4 @@
 //! The smaller collections, and the guide's stack.
-use crate::memory::{End, end_by, end_of, is_all_freed};
 use ex_small::arena::Arena;
 use ex_small::editor::Editor;
 use ex_small::fixed::Fixed;
@@ -9,6 +8,7 @@ use std::alloc::Global;
 use std::cell::Cell;
 use test_allocators::Faulty;
 use test_allocators::counted::Counted;
+use test_allocators::ends::{End, end_by, end_of, is_all_freed};
 
 type Values<'a> = Arena<Counted<'a>, &'a Faulty<Global>>;
 

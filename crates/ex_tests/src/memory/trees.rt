@@ -1,5 +1,4 @@
 //! Lists and trees.
-use crate::memory::{End, end_by, is_all_freed};
 use aa_boxed::boxed::Box;
 use aa_vec::vec::Vec;
 use ex_trees::derived::{Link, Sealed, Wood};
@@ -10,6 +9,7 @@ use ex_trees::tree::{Tree, leaf, pop_child, push_child};
 use std::alloc::{AllocError, Allocator, Global};
 use std::clone::Clone;
 use test_allocators::Faulty;
+use test_allocators::ends::{End, end_by, is_all_freed};
 
 type Heap<'a> = &'a Faulty<Global>;
 

@@ -1,5 +1,4 @@
 //! The small vector.
-use crate::memory::{End, end_by, end_of, is_all_freed};
 use aa_inline::inline::InlineVec;
 use allocator_api2::collections::TryReserveError;
 use allocator_api2::vec::Vec;
@@ -13,6 +12,7 @@ use std::ops::Range;
 use std::test::Fail;
 use test_allocators::Faulty;
 use test_allocators::counted::Counted;
+use test_allocators::ends::{End, end_by, end_of, is_all_freed};
 
 // Up to three items inline, over an allocator that may fail.
 type Small<'a> = InlineVec<u64, &'a Faulty<Global>, 3>;

@@ -1,10 +1,10 @@
 //! The ring.
-use crate::memory::is_all_freed;
 use aa_ring::ring::Ring;
 use std::alloc::Global;
 use std::cell::Cell;
 use test_allocators::Faulty;
 use test_allocators::counted::Counted;
+use test_allocators::ends::is_all_freed;
 
 type Small<'a> = Ring<Counted<'a>, &'a Faulty<Global>>;
 

@@ -1,5 +1,4 @@
 //! The hash table, with keys that have memory of their own.
-use crate::memory::{End, end_by, end_of, is_all_freed};
 use aa_table::table::Table;
 use allocator_api2::boxed::BoxedText;
 use std::alloc::Global;
@@ -7,6 +6,7 @@ use std::cell::Cell;
 use std::hash::{BuildHasherDefault, FoldHasher};
 use test_allocators::Faulty;
 use test_allocators::counted::Counted;
+use test_allocators::ends::{End, end_by, end_of, is_all_freed};
 
 type Key<'a> = BoxedText<&'a Faulty<Global>>;
 

@@ -1,10 +1,10 @@
 //! The slot map.
-use crate::memory::{End, end_by, end_of, is_all_freed};
 use aa_slots::map::{Key, SlotMap};
 use std::alloc::Global;
 use std::cell::Cell;
 use test_allocators::Faulty;
 use test_allocators::counted::Counted;
+use test_allocators::ends::{End, end_by, end_of, is_all_freed};
 
 type Slots<'a> = SlotMap<Counted<'a>, &'a Faulty<Global>>;
 

@@ -1,0 +1,5 @@
+//! Tests of the small vector; no part of the library.
+#![tactic(auto)]
+
+#[cfg(test)]
+mod inline;

@@ -1,0 +1,7 @@
+//! Tests of the slot map; no part of the library.
+#![tactic(auto)]
+
+#[cfg(test)]
+mod memory;
+#[cfg(test)]
+mod slots;

@@ -1,0 +1,9 @@
+//! Tests of the table and the set; no part of the library.
+#![tactic(auto)]
+
+#[cfg(test)]
+mod memory;
+#[cfg(test)]
+mod set;
+#[cfg(test)]
+mod table;
