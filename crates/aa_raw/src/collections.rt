@@ -2,7 +2,7 @@
 ghost use Rattle.std.specs.Prelude.{◌≡◌, Some};
 ghost use Rattle.std.specs.Mem.{type_size};
 ghost use Rattle.std.specs.IoError.{error_kind};
-ghost use Rattle.std.specs.declared.io.kind.ErrorKind.TheVariants.{OutOfMemory};
+ghost use Rattle.std_io.specs.declared.io.kind.ErrorKind.TheVariants.{OutOfMemory};
 ghost use Rattle.aa_raw.specs.Errors.{error_for, text_of};
 
 use crate::size::{fits_in_block, is_zst};
