@@ -99,7 +99,7 @@ class Items:
             if items:
                 out.append(f"<h2>{title}</h2>" + "\n".join(self.item(section_of, item, None) for section_of, item in items))
         for section_of, items in page.others:
-            out.append(self.impl(section_of, items, slug(f"{section_of.type}.{section_of.trait}")))
+            out.append(self.impl(section_of, items))
         return "\n".join(out)
 
     def example_note(self, crate):
@@ -177,8 +177,8 @@ class Items:
                 out.append(f'<div class="clause"><span class="name">{name}</span><div>{note}{text}</div></div>')
         return f'<div class="contract">{"".join(out)}</div>' if out else ""
 
-    def impl(self, section_of, items, anchor=None):
-        name = anchor or self.library.anchors[section_of][1]
+    def impl(self, section_of, items):
+        name = self.library.anchors[section_of][1]
         head = code(self.signature([section_of.shown], section_of.file))
         inside = "\n".join(self.item(section_of, item, None) for item in items)
         title = f'<h4>{here(name, "§")} {head} {self.source(section_of.file, section_of.line)}</h4>'

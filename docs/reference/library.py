@@ -128,6 +128,7 @@ class Library:
             for _, item in page.functions + page.macros:
                 self.anchor(page, item.name, item)
             for section, items in page.others:
+                self.anchor(page, f"{section.type}.{section.trait}", section)
                 for item in items:
                     self.anchor(page, f"{section.type}.{section.trait}.{item.name}", item)
 
