@@ -48,6 +48,14 @@ def read_functions(lines):
         yield found.group(2), at + 1, lines[start : end + 1], owner
 
 
+@functools.lru_cache(maxsize=None)
+def variants():
+    """The type that each variant of a public enum has in it, where it is one type with parameters."""
+    texts = [text_of(file) for crate in EXAMPLES for file in (TOP / "crates" / crate / "src").rglob("*.rt")]
+    enums = re.findall(r"^pub enum .*?^}", "\n".join(texts), re.M | re.S)
+    return {name: of for it in enums for name, of in re.findall(r"^    (\w+)\((\w+)<", it, re.M)}
+
+
 def leaves(tree, before=()):
     """The names that a tree of a `use` brings into scope, each with its path."""
     head, brace, inside = tree.strip().partition("{")
@@ -92,7 +100,12 @@ class Scope:
         """The names in a text that have a type of the library: parameters, fields, and what a type's functions return."""
         written = re.findall(r"\b(\w+): (?:&(?:'\w+ )?(?:mut )?)?((?:\w+::)*\w+)", text)
         written += re.findall(r"let (?:mut )?(\w+) = ((?:\w+::)*\w+)(?:::<[^>]*>)?::\w+\(", text)
-        found = {name: self.returned.get(call) for name, call in re.findall(r"let (?:mut )?(\w+) = (\w+)\(", text)}
+        calls = re.findall(r"let (?:mut )?(\w+) = (\w+)\(", text)
+        for names, made in re.findall(r"let \(([\w, ]+)\) = \(([^;]*)\);", text):
+            calls += zip(re.findall(r"\w+", names.replace("mut ", "")), re.findall(r"(?:^|, )(\w+)\(", made))
+        found = {name: self.returned.get(call) for name, call in calls}
+        for variant, name in re.findall(r"(\w+)\((?:mut )?(\w+)\) =>", text):
+            found[name] = variants().get(variant) if variants().get(variant) in self.types else found.get(name)
         found.update({name: self.type(path) for name, path in written})
         return {name: of for name, of in found.items() if of}
 

@@ -5,7 +5,6 @@ import textwrap
 import callers
 import groups
 from library import INNER, LIBRARY
-from linked import slug
 from markdown import Renderer
 from sources import ORIGINAL, comment_of, passed_on, text_of
 from tags import code, entry, folded, here, link, piece, plain, section

@@ -1,7 +1,8 @@
 //! Bytes and texts.
-ghost use Rattle.std.specs.Prelude.{◌≡◌, ◌+◌, ◌++◌, ℕ, List, length, codes, decimal, IfOk, IfErr, IsTrue, OnErr, OnOk, ◌↔◌};
+ghost use Rattle.std.specs.Prelude.{◌≡◌, ◌+◌, ◌^◌, ◌<◌, ◌++◌, ℕ, List, length, codes, decimal, IfOk, IfErr, IsTrue, OnErr, OnOk, ◌↔◌};
 ghost use Rattle.std.specs.Io.KnownBytes.{Consumes, IsAtEnd};
 ghost use Rattle.allocator_api2.specs.Errors.{IsErrorForAtLeast};
+ghost use Rattle.allocator_api2.specs.Vector.{HasRoom, Holds};
 
 use allocator_api2::boxed::{BoxedSlice, BoxedText};
 use allocator_api2::collections::{Refused, TryReserveError};
@@ -99,4 +100,41 @@ pub fn another(t: &BoxedText) -> Result<BoxedText, TryReserveError>
     ensures { IfOk result (λ c. c ≡ t.now) }
 {
     t.clone()
+}
+
+// Appends bytes, which must fit, and so does not allocate.
+fn write_within<A: Allocator>(v: &mut Vec<u8, A>, bytes: &[u8])
+    requires room { HasRoom v.old (length bytes.now) }
+    ensures { Holds v.old (v.old.items ++ bytes.now) v.new }
+{
+    match v.extend_from_slice_copied(bytes) {
+        Ok(()) => {}
+        Err(_) => unreachable!(),
+    }
+}
+
+/// Appends a key, `=` and a value, or nothing.
+pub fn write_pair<A: Allocator>(
+    v: &mut Vec<u8, A>,
+    key: &[u8],
+    value: &[u8],
+) -> Result<(), TryReserveError>
+    requires { length key.now + length value.now + 1 < 2 ^ 64 }
+    ensures all { OnOk result (v.new.items ≡ v.old.items ++ key.now ++ codes "=" ++ value.now) }
+    ensures none { OnErr result (v.new ≡ v.old) }
+{
+    v.try_reserve(key.len() + value.len() + 1)?;
+    write_within(v, key);
+    write_within(v, b"=");
+    write_within(v, value);
+    Ok(())
+}
+
+/// Writes a text and a line feed.
+pub fn write_in_line<A: Allocator>(v: &mut Vec<u8, A>, text: &str) -> Written<()>
+    ensures { OnOk result (v.new.items ≡ v.old.items ++ text.now ++ codes "\n") }
+{
+    v.write_all(text.as_bytes())?;
+    v.push(b'\n')?;
+    Ok(())
 }
