@@ -11,10 +11,10 @@ Caller = collections.namedtuple("Caller", "crate file name line text calls")
 SKIPPED = {"faulty"}
 # The crates of tests whose functions are quoted, too.
 TESTS = ["ex_tests", "table_tests", "ring_tests", "inline_tests", "slots_tests", "ordered_tests", "heap_tests", "layer_tests"]
-# The layers that stand on the block, whose functions are quoted if no other calls an item.
+# The layers that stand on the block. Their functions are quoted if no other calls an item, as a collection's own are.
 LAYERS = ["aa_boxed", "aa_vec", "aa_gap"]
 # The traits whose methods are called on a type of another crate.
-TRAITS = {"SliceExt", "Repeat"}
+TRAITS = {"SliceExt", "Repeat", "Watch", "Layer", "Chooser"}
 
 
 def sources():
@@ -78,11 +78,14 @@ class Scope:
     """
 
     def __init__(self, text, types, crates):
+        own = re.findall(r"^pub (?:struct|enum|trait) (\w+)", text, re.M) if "crate" in crates else ()
         trees = re.findall(r"^[ ]*(?:pub(?:\(\w+\))? )?use ([^;]+);", text, re.M)
-        self.names = {name: path for tree in trees for name, path in leaves(tree)}
+        self.names = {name: ("crate", name) for name in own} | {name: path for tree in trees for name, path in leaves(tree)}
         self.types, self.crates, self.returned = types, crates, {}
         for name, path in re.findall(r"^(?:pub(?:\(\w+\))? )?type (\w+)(?:<[^=]*>)? = ((?:\w+::)*\w+)", text, re.M):
             self.names.setdefault(name, self.path(path))
+        for name, of in re.findall(r"[<,] ?([A-Z]): (\w+)", text):
+            self.names.setdefault(name, self.path(of))
         for name, of in re.findall(r"^(?:pub(?:\(\w+\))? )?fn (\w+)[^;{]*?\) -> (.*)", text, re.M):
             self.returned[name] = next((it for it in map(self.type, re.findall(r"(?:\w+::)*\w+", of)) if it), None)
 
@@ -104,8 +107,6 @@ class Scope:
         for names, made in re.findall(r"let \(([\w, ]+)\) = \(([^;]*)\);", text):
             calls += zip(re.findall(r"\w+", names.replace("mut ", "")), re.findall(r"(?:^|, )(\w+)\(", made))
         found = {name: self.returned.get(call) for name, call in calls}
-        for variant, name in re.findall(r"(\w+)\((?:mut )?(\w+)\) =>", text):
-            found[name] = variants().get(variant) if variants().get(variant) in self.types else found.get(name)
         found.update({name: self.type(path) for name, path in written})
         return {name: of for name, of in found.items() if of}
 
@@ -135,6 +136,11 @@ def calls_of(lines, fields, scope, methods):
             found.add((of, name))
             if named and methods[of, name]:
                 known[named] = methods[of, name]
+    # What an arm of a match calls on the value of its variant.
+    arms = [it for it in re.finditer(r"(\w+)\((?:mut )?(\w+)\) =>", inside) if it[1] in variants()]
+    for arm, end in zip(arms, [it.start() for it in arms[1:]] + [len(inside)]):
+        for name in re.findall(rf"\b{arm[2]}\.(\w+)\(", inside[arm.end() : end]):
+            found |= {(of, name) for of in [variants()[arm[1]]] if (of, name) in methods}
     # Functions that belong to no type, and methods of a trait that the file imports.
     for name in re.findall(r"(?<![\w.:])(\w+)(?:::<[^>]*>)?\(", inside):
         if scope.path(name)[0] in scope.crates and ("", name) in methods:
@@ -154,15 +160,15 @@ def callers(types, methods, crates=tuple(CRATES)):
     passing = {it.parent.parent.name for it in (TOP / "crates").glob("*/src/lib.rt") for of in crates if f"pub use {of}::" in text_of(it)}
     inner = collections.defaultdict(list)
     for crate, file in sources():
-        if crate in crates and (crate not in LAYERS or "aa_raw" not in crates):
-            continue
-        scope = Scope(text_of(file), types, {"aa_raw"} if crate in LAYERS else {*crates, *passing})
+        is_inner = crate in crates
+        below = {"aa_raw"} if crate in LAYERS else {"crate"}
+        scope = Scope(text_of(file), types, below if is_inner else {*crates, *passing})
         fields = fields_in(text_of(file), scope)
         for name, line, lines, owner in functions(file):
             made = calls_of(lines, fields, scope, methods)
             caller = Caller(crate, file, f"{owner}::{name}" if owner else name, line, lines, made)
             for call in made:
-                (inner if crate in LAYERS else found)[call].append(caller)
+                (inner if is_inner else found)[call].append(caller)
     found.update({call: there for call, there in inner.items() if call not in found})
     for there in found.values():
         there.sort(key=lambda it: (it.crate in TESTS, it.crate != "guide", len(it.text)))

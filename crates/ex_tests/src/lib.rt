@@ -15,6 +15,8 @@ mod ledgers;
 #[cfg(test)]
 mod memory;
 #[cfg(test)]
+mod parts;
+#[cfg(test)]
 mod recycler;
 #[cfg(test)]
 mod small;
