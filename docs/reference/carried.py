@@ -42,7 +42,8 @@ class Carried:
         """The `impl`s of a trait for a type, as `Box as Iterator`, with their items."""
         of, trait = name.split(" as ")
         there = self.library.types.get(of)
-        return [(section, items) for section, items in (there.impls if there else ()) if section.trait.split("::")[-1] == trait]
+        beside = [it for page in self.library.pages.values() for it in page.others if it[0].type == of]
+        return [it for it in (there.impls if there else beside) if it[0].trait.split("::")[-1] == trait]
 
     def links(self, name, clauses, modules):
         """The links of a name and its clauses, each with its text; none if one of them does not exist."""

@@ -72,7 +72,7 @@ def modules(crate):
 def type_of(head):
     """The type that an `impl` is for."""
     text = head.split(" for ")[-1] if " for " in head else re.sub(r"^impl(<.*?>)? ", "", head)
-    return (re.findall(r"\w+", re.sub(r"^&('\w+ )?(mut )?", "", text)) or [""])[0]
+    return (re.findall(r"\w+(?:::\w+)*", re.sub(r"^&('\w+ )?(mut )?", "", text)) or [""])[0].split("::")[-1]
 
 
 def joined(lines, at, ends):
