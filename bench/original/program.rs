@@ -1,9 +1,9 @@
 //! The cases of `vecbench` over the vector of allocator-api2 and over Rust's own: `bench/run` builds it by rustc and runs it.
 //!
 //! It reads the lines that `vecbench` reads, and prints in the same form. `CASE COUNT [REPEAT]` prints the nanoseconds for each element
-//! over allocator-api2's vector and over Rust's own, the fastest of REPEAT runs each, and a checksum of what each left. `check CASE COUNT`
-//! prints the checksums alone. It prints a - if the vector has no such case. Without the `original` configuration it is built over Rust's
-//! own vector alone.
+//! over allocator-api2's vector, on an allocator that can't resize a block and on one that can, and over Rust's own. Each is the fastest of
+//! REPEAT runs. Then come the checksums of what each left. `check CASE COUNT` prints the checksums alone. It prints a - if the vector has
+//! no such case. Without the `original` configuration it is built over Rust's own vector alone.
 use std::io::BufRead;
 use std::time::{Duration, Instant};
 
@@ -94,15 +94,12 @@ fn sized(case: &str) -> (&str, usize) {
     sizes.into_iter().find_map(|(end, size)| Some((case.strip_suffix(end)?, size))).unwrap_or((case, 4))
 }
 
-/// Over the vector of allocator-api2, on an allocator that can't resize a block.
+/// Blocks of the C library, which are never resized. A growth allocates a new one, copies what is in the old one, and frees that.
 #[cfg(original)]
-mod original {
-    use super::{checksum_from, sized, Element, Wide};
+mod blocks {
     use allocator_api2::alloc::{AllocError, Allocator, Layout};
-    use std::io::Write;
     use std::ptr::{slice_from_raw_parts_mut, NonNull};
 
-    // Blocks of the C library. A growth allocates a new one, copies what is in the old one, and frees that.
     #[derive(Clone, Copy)]
     pub struct Blocks;
 
@@ -123,50 +120,67 @@ mod original {
             }
         }
     }
-
-    type Vec<E> = allocator_api2::vec::Vec<E, Blocks>;
-    type Box<E> = allocator_api2::boxed::Box<E, Blocks>;
-
-    const HAS_EXTRACT: bool = false;
-
-    fn empty<E>() -> Vec<E> {
-        Vec::new_in(Blocks)
-    }
-
-    fn boxed<E>(value: E) -> Box<E> {
-        Box::new_in(value, Blocks)
-    }
-
-    fn extract_half(_list: &mut Vec<u32>) {}
-
-    // It has no table and no queue. A gap buffer in plain Rust is built on its vector.
-    #[derive(Default)]
-    struct Held {
-        text: GapBuffer,
-    }
-
-    impl Held {
-        fn prepare(&mut self, case: &str, count: u32) -> bool {
-            let is_of_text = matches!(case, "gap_insert" | "gap_typing");
-            if is_of_text {
-                self.text.fill(count);
-            }
-            is_of_text
-        }
-        fn run(&mut self, case: &str, count: u32) {
-            match case {
-                "gap_insert" => gap_insert(&mut self.text),
-                _ => gap_typing(&mut self.text, count),
-            }
-        }
-        fn checksum(&self, sum: u64) -> u64 {
-            self.text.checksum(sum)
-        }
-    }
-
-    include!("gap.rs");
-    include!("cases.rs");
 }
+
+/// The cases over the vector of allocator-api2, on an allocator of this type.
+#[cfg(original)]
+macro_rules! original_over {
+    ($module:ident, $blocks:path) => {
+        mod $module {
+            use super::{checksum_from, sized, Element, Wide};
+            use std::io::Write;
+            use $blocks as Blocks;
+
+            type Vec<E> = allocator_api2::vec::Vec<E, Blocks>;
+            type Box<E> = allocator_api2::boxed::Box<E, Blocks>;
+
+            const HAS_EXTRACT: bool = false;
+
+            fn empty<E>() -> Vec<E> {
+                Vec::new_in(Blocks)
+            }
+
+            fn boxed<E>(value: E) -> Box<E> {
+                Box::new_in(value, Blocks)
+            }
+
+            fn extract_half(_list: &mut Vec<u32>) {}
+
+            // It has no table and no queue. A gap buffer in plain Rust is built on its vector.
+            #[derive(Default)]
+            struct Held {
+                text: GapBuffer,
+            }
+
+            impl Held {
+                fn prepare(&mut self, case: &str, count: u32) -> bool {
+                    let is_of_text = matches!(case, "gap_insert" | "gap_typing");
+                    if is_of_text {
+                        self.text.fill(count);
+                    }
+                    is_of_text
+                }
+                fn run(&mut self, case: &str, count: u32) {
+                    match case {
+                        "gap_insert" => gap_insert(&mut self.text),
+                        _ => gap_typing(&mut self.text, count),
+                    }
+                }
+                fn checksum(&self, sum: u64) -> u64 {
+                    self.text.checksum(sum)
+                }
+            }
+
+            include!("gap.rs");
+            include!("cases.rs");
+        }
+    };
+}
+
+#[cfg(original)]
+original_over!(original, crate::blocks::Blocks);
+#[cfg(original)]
+original_over!(resizing, allocator_api2::alloc::Global);
 
 /// Over Rust's own vector, whose allocator resizes blocks.
 mod standard {
@@ -232,19 +246,19 @@ fn answer(line: &str) -> Option<String> {
     };
     let (number, repeat): (u32, u32) = (count.parse().ok()?, repeat.parse().ok()?);
     #[cfg(original)]
-    let original = measured!(original, case, number, repeat);
+    let (original, resizing) = (measured!(original, case, number, repeat), measured!(resizing, case, number, repeat));
     #[cfg(not(original))]
-    let original = Measure::default();
-    let standard = measured!(standard, case, number, repeat);
+    let (original, resizing) = (Measure::default(), Measure::default());
+    let all = [original, resizing, measured!(standard, case, number, repeat)];
     let time = |measure: &Measure| match measure.time {
         Some(time) => format!("{:.3}", time.as_nanos() as f64 / f64::from(number)),
         None => "-".to_string(),
     };
     let sum = |measure: &Measure| measure.checksum.map_or("-".to_string(), |sum| sum.to_string());
-    let sums = format!("{} {}", sum(&original), sum(&standard));
+    let sums = all.iter().map(sum).collect::<Vec<_>>().join(" ");
     Some(match checks {
         true => format!("{case} {count} {sums}"),
-        false => format!("{case} {count} {} {} {sums}", time(&original), time(&standard)),
+        false => format!("{case} {count} {} {sums}", all.iter().map(time).collect::<Vec<_>>().join(" ")),
     })
 }
 

@@ -79,7 +79,7 @@ def size(of):
 
 @functools.lru_cache(maxsize=None)
 def cases():
-    """The cells of the bench's tables of cases, by the case: four of instructions, and four of times."""
+    """The cells of the bench's tables of cases, by the case: four of instructions, four of times, and one of a vector that resizes."""
     page = text_of(TOP / "bench" / "README.md")
     tables = re.findall(r"<!-- (?:cases|uses), by bench/run page -->\n(.*?)<!-- end -->", page, re.S)
     rows = [[cell.strip() for cell in row.split("|")] for row in re.findall(r"^\| (`.*) \|$", "".join(tables), re.M)]
