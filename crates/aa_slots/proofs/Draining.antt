@@ -1,5 +1,5 @@
 -- The slots of a map whose values are removed from either end.
-use Rattle.aa_slots.proofs.Common.{AreFree, AreHeld, Held, Key, List, None, Option, Slotted, Some, State, [], ap, arith, cases_eq, cases_lt, entries_from, inl, inr, is_some, length, length-set, refl, rest_of, seen, slice_set, slot_at, state_at, subst, sym, true, value_under, ℕ, ⊤, ◌++◌, ◌+◌, ◌-◌, ◌<◌, ◌∙◌, ◌∷◌, ◌≡◌, ◌≤◌}
+use Rattle.aa_slots.proofs.Common.{AreFree, AreHeld, Held, KeyData, List, None, Option, Slotted, Some, State, [], ap, arith, cases_eq, cases_lt, entries_from, inl, inr, is_some, length, length-set, refl, rest_of, seen, slice_set, slot_at, state_at, subst, sym, true, value_under, ℕ, ⊤, ◌++◌, ◌+◌, ◌-◌, ◌<◌, ◌∙◌, ◌∷◌, ◌≡◌, ◌≤◌}
 use Rattle.aa_slots.proofs.Finds.{length-entries, slot-freed}
 use Rattle.aa_slots.proofs.Remaining.{back-free, rest-above, rest-below, rest-free, rest-last, rest-next, rest-none, rest-whole}
 use Rattle.aa_slots.proofs.Retaining.{within-slots}
@@ -16,7 +16,7 @@ use Rattle.std.specs.Iterator.Runs.{YieldsInOrder, YieldsInReverse}
 
 module _ {T : Type 0} where
   -- the slot of a key by its state, and free slots
-  pub found-held : (ss : List State) (cs : List (Option (⊤ × T))) (k : Key) → AreHeld ss cs
+  pub found-held : (ss : List State) (cs : List (Option (⊤ × T))) (k : KeyData) → AreHeld ss cs
       → state_at ss k.index ≡ Held k.serial
       → is_some (value_under k.serial (slot_at (seen ss cs) k.index)) ≡ true
   found-held ss cs k held is =
@@ -56,7 +56,7 @@ module _ {T : Type 0} where
     | inr n ↦ get_or-set_other ss k i None None n ∙ h
   ]
 
-  module _ (ss : List (Option (ℕ × T))) (from end : ℕ) (w : IsAllWithin ss from end) (k : Key) (x : T)
+  module _ (ss : List (Option (ℕ × T))) (from end : ℕ) (w : IsAllWithin ss from end) (k : KeyData) (x : T)
       (is : slot_at ss k.index ≡ Some (k.serial, x)) where
     abbrev new : List (Option (ℕ × T))
     new = slice_set ss k.index None
@@ -125,30 +125,30 @@ module _ {T : Type 0} where
           ∙ rest-last ss 0 k.index (length ss) k.serial x (omega arith) there (omega arith) above is
           ∙ ap (λ es. es ++ (k, x) ∷ []) (sym last-rest)
 
-module _ {T A : Type 0} where
+module _ {T A K : Type 0} where
   -- nothing else is changed along the calls
-  keeps-same : (d : Drain T A) → DrainKeeps d d
+  keeps-same : (d : Drain T A K) → DrainKeeps d d
   keeps-same d = record { lender = refl; others = refl }
 
-  keeps-then : (d e f : Drain T A) → DrainKeeps d e → DrainKeeps e f → DrainKeeps d f
+  keeps-then : (d e f : Drain T A K) → DrainKeeps d e → DrainKeeps e f → DrainKeeps d f
   keeps-then d e f h k = record {
     lender = k.lender ∙ h.lender;
     others = k.others ∙ ap {A = Slotted T} (λ m. record m { slots = (drain_map f).slots }) h.others;
   }
 
-  pub keeps-along : (d : Drain T A) (xs : List (Key × T)) (later : Drain T A)
+  pub keeps-along : (d : Drain T A K) (xs : List (KeyData × T)) (later : Drain T A K)
       → Yields drains_first d xs later → DrainKeeps d later
   keeps-along d [] later y = subst (DrainKeeps d) y (keeps-same d)
   keeps-along d (x ∷ xs) later y = keeps-then d y.0 later y.1.0 (keeps-along y.0 xs later y.2)
 
   -- what calls of `next` return, and calls of `next_back`
-  pub drained-in_order : YieldsInOrder (drains_first {T = T} {A = A}) drain_remaining
+  pub drained-in_order : YieldsInOrder (drains_first {T = T} {A = A} {K = K}) drain_remaining
   drained-in_order p s = as_is p (drain_remaining p.from)
-      (from_front (drains_first {T = T} {A = A}) (λ x. x) drain_remaining (λ d e h. ap length h.1.0) (λ d x e h. h.2) p s)
+      (from_front (drains_first {T = T} {A = A} {K = K}) (λ x. x) drain_remaining (λ d e h. ap length h.1.0) (λ d x e h. h.2) p s)
 
-  pub drained-in_reverse : YieldsInReverse (drains_last {T = T} {A = A}) drain_remaining
+  pub drained-in_reverse : YieldsInReverse (drains_last {T = T} {A = A} {K = K}) drain_remaining
   drained-in_reverse p s = as_is_back p (drain_remaining p.from)
-      (from_back (drains_last {T = T} {A = A}) (λ x. x) drain_remaining
+      (from_back (drains_last {T = T} {A = A} {K = K}) (λ x. x) drain_remaining
       (λ d e h. ap length h.1.0) (λ d x e h. h.2) p s)
 
 pub ruleset between = (nat_tests, found-held, absent-free, absent-cut)

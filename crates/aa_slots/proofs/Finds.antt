@@ -1,5 +1,5 @@
 -- The values that keys find, and their number, when a slot is written.
-use Rattle.aa_slots.proofs.Common.{Key, List, None, Option, Puts, Some, [], arith, cond, count, entries_from, inl, inr, is_some, length, refl, slice_set, slot_at, suc, true, value_under, with_at, zero, ℕ, ◌++◌, ◌+◌, ◌<◌, ◌∷◌, ◌≡◌, ◌≢◌, ◌≤◌}
+use Rattle.aa_slots.proofs.Common.{KeyData, List, None, Option, Puts, Some, [], arith, cond, count, entries_from, inl, inr, is_some, length, refl, slice_set, slot_at, suc, true, value_under, with_at, zero, ℕ, ◌++◌, ◌+◌, ◌<◌, ◌∷◌, ◌≡◌, ◌≢◌, ◌≤◌}
 use Rattle.aa_slots.proofs.Chains.{chain-none}
 use Rattle.std.proofs.Common.{get_or-set_other}
 use Rattle.std.proofs.lemmas.Bool.{cases_eq}
@@ -16,7 +16,7 @@ module _ {X : Type 0} where
   with_at-after [] x = refl
   with_at-after (y ∷ xs) x = rw (with_at-after xs x)
 
-alike : (j k : Key) → j.index ≡ k.index → j.serial ≡ k.serial → j ≡ k
+alike : (j k : KeyData) → j.index ≡ k.index → j.serial ≡ k.serial → j ≡ k
 alike j k p q i = record { index = p i; serial = q i }
 
 module _ {T : Type 0} where
@@ -63,7 +63,7 @@ module _ {T : Type 0} where
     pub found-put : value_under serial (slot_at new i) ≡ Some x
     found-put = rw (p.put, slot-with_at ss i (Some (serial, x)) p.within) (grind (arith, nat_tests))
 
-    pub others-put : (j : Key) → j ≢ record { index = i; serial = serial } → value_under j.serial (slot_at new j.index) ≡ value_under j.serial (slot_at ss j.index)
+    pub others-put : (j : KeyData) → j ≢ record { index = i; serial = serial } → value_under j.serial (slot_at new j.index) ≡ value_under j.serial (slot_at ss j.index)
     others-put j n = elim (cases_eq j.index i) [
       | inl e ↦ let f : j.serial ≢ serial = λ q. n (alike j (record { index = i; serial = serial }) e q) in rw (p.put, e, slot-with_at ss i (Some (serial, x)) p.within, p.free) (grind (arith, nat_tests, f))
       | inr o ↦ rw (p.put, slot-with_at_other ss i j.index (Some (serial, x)) p.within o) refl
@@ -77,11 +77,11 @@ module _ {T : Type 0} where
   other None own serial x f n = refl
   other (Some e) own serial x f n = grind (arith, nat_tests, f, n)
 
-  module _ (ss : List (Option (ℕ × T))) (k : Key) where
+  module _ (ss : List (Option (ℕ × T))) (k : KeyData) where
     pub absent : value_under k.serial (slot_at (slice_set ss k.index None) k.index) ≡ None
     absent = rw (slot-freed ss k.index) refl
 
-    pub others-freed : (x : T) → value_under k.serial (slot_at ss k.index) ≡ Some x → (j : Key) → j ≢ k → value_under j.serial (slot_at (slice_set ss k.index None) j.index) ≡ value_under j.serial (slot_at ss j.index)
+    pub others-freed : (x : T) → value_under k.serial (slot_at ss k.index) ≡ Some x → (j : KeyData) → j ≢ k → value_under j.serial (slot_at (slice_set ss k.index None) j.index) ≡ value_under j.serial (slot_at ss j.index)
     others-freed x f j n = elim (cases_eq j.index k.index) [
       | inl e ↦ let g : j.serial ≢ k.serial = λ q. n (alike j k e q) in rw (e, slot-freed ss k.index) (other (slot_at ss k.index) k.serial j.serial x f g)
       | inr o ↦ rw (get_or-set_other ss k.index j.index None None o) refl

@@ -1,12 +1,12 @@
 -- The pairs in slots, one by one from either end.
-use Rattle.aa_slots.proofs.Common.{Key, List, None, Option, Some, [], ap, arith, entries_from, length, ℕ, ◌++◌, ◌+◌, ◌∷◌, ◌≡◌, refl}
+use Rattle.aa_slots.proofs.Common.{KeyData, List, None, Option, Some, [], ap, arith, entries_from, length, ℕ, ◌++◌, ◌+◌, ◌∷◌, ◌≡◌, refl}
 use Rattle.aa_slots.proofs.Finds.{length-entries}
 use Rattle.aa_slots.specs.Iterating.{pair_of, YieldsPairsInOrder, YieldsPairsInReverse}
 use Rattle.std.proofs.iter.runs.Sources.{from_front, from_back}
 use Rattle.std.specs.Iterator.{YieldsFirstBy, YieldsLastBy}
 
 -- what a slot adds to the pairs, if it is at this index
-abbrev pub pairs_of : {T : Type 0} → (i : ℕ) → Option (ℕ × T) → List (Key × T)
+abbrev pub pairs_of : {T : Type 0} → (i : ℕ) → Option (ℕ × T) → List (KeyData × T)
 pairs_of i None = []
 pairs_of i (Some e) = (record { index = i; serial = e.0 }, e.1) ∷ []
 

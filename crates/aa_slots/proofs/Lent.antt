@@ -37,7 +37,9 @@ use denote.Struct.Pick.{field_back, field_out}
 use denote.Struct.Tuple.{tuple_laws}
 use mir.Syntax.{w64}
 use Rattle.core.specs.declared.alloc.Allocator as alloc
+use Rattle.core.specs.contracts.marker.PhantomData as marker
 use Rattle.core.specs.contracts.option.Option as option
+use Rattle.core.proofs.marker.PhantomData.TheLaws as marker_laws
 use Rattle.core.proofs.option.Option.TheLaws as option_laws
 use Rattle.allocator_api2.specs.contracts.vec.Vec as vec
 use Rattle.allocator_api2.proofs.vec.Vec.TheLaws as vec_laws
@@ -63,18 +65,21 @@ use Rattle.aa_slots.specs.declared.map.SlotMap.TheView.{view, invariant}
 pub unit_ok : Laws unit
 unit_ok = of_field unit-field unit-laws refl (copy_shared unit-field unit-copy)
 
-module _ (Y Z : RattleType) (g : alloc.Ghosts Z.Denot) where
+module _ (Y Z X : RattleType) (g : alloc.Ghosts Z.Denot) where
   abbrev pub V : RattleType
   V = param 0 Y
 
   abbrev pub A : RattleType
   A = param 1 Z
 
+  abbrev pub C : RattleType
+  C = param 2 X
+
   abbrev pub Mp : RattleType
-  Mp = map.the_row V A g
+  Mp = map.the_row V A C g
 
   abbrev pub In : RattleType
-  In = inside.the_row V A g
+  In = inside.the_row V A C g
 
   abbrev pub Bk : RattleType
   Bk = block.the_row (Entry unit V) A g
@@ -89,7 +94,7 @@ module _ (Y Z : RattleType) (g : alloc.Ghosts Z.Denot) where
   of_row R = record { row = R; ty = lone R.mir }
 
   abbrev rest_ms : List Member
-  rest_ms = of_row chain.the_row ∷ of_row u64 ∷ []
+  rest_ms = of_row chain.the_row ∷ of_row u64 ∷ of_row (marker.the_row C) ∷ []
 
   abbrev pub ms : List Member
   ms = of_row Bk ∷ of_row Ix ∷ rest_ms
@@ -102,7 +107,7 @@ module _ (Y Z : RattleType) (g : alloc.Ghosts Z.Denot) where
   index_at = up (align (lone Ix.mir)) (block_at + size (lone Bk.mir))
 
   abbrev pub Viewed : D → In.Denot → Type 0
-  Viewed d a = (view Y.Denot Z.Denot g a ≡ d) × invariant Y.Denot Z.Denot g a
+  Viewed d a = (view Y.Denot Z.Denot X.Denot g a ≡ d) × invariant Y.Denot Z.Denot X.Denot g a
 
   -- the map `d` with the values of `u`
   abbrev pub following : D → D → D
@@ -115,7 +120,7 @@ module _ (Y Z : RattleType) (g : alloc.Ghosts Z.Denot) where
   itself : (d : D) → following d d ≡ d
   itself d = ap (λ ss. record { slots = ss; capacity = d.capacity; issued = d.issued }) (same d.slots)
 
-  module _ (LY : Laws Y) (LZ : Laws Z) {M : Type 1} {𝓤 : Ura M} (𝓛 : Logic 𝓤) (rb ro : ℕ) where
+  module _ (LY : Laws Y) (LZ : Laws Z) (LX : Laws X) {M : Type 1} {𝓤 : Ura M} (𝓛 : Logic 𝓤) (rb ro : ℕ) where
     open 𝓛 use {A as tokens}
 
     pub the_index_laws : Laws Ix
@@ -126,7 +131,7 @@ module _ (Y Z : RattleType) (g : alloc.Ghosts Z.Denot) where
       Index = part_at Ix full_share a.slots rb (ro + index_at)
 
       abbrev pub Others : Fml
-      Others = parts_at full_share rest_ms (index_at + size (lone Ix.mir)) (a.free, (a.issued, tt)) rb ro
+      Others = parts_at full_share rest_ms (index_at + size (lone Ix.mir)) (a.free, (a.issued, (a.kind, tt))) rb ro
 
       abbrev pub Gaps : SProp 𝓤
       Gaps = PartsBack 𝓛 full_share [] ms rb ro
@@ -135,9 +140,9 @@ module _ (Y Z : RattleType) (g : alloc.Ghosts Z.Denot) where
       unfolding part_of
       takes_apart = field_out 𝓛 full_share [] ms (
         (block_laws.the_row_laws (Entry unit V) A g (tuple_laws (unit ∷ V ∷ []) (unit_ok, (param_laws 0 Y LY, tt))) (param_laws 1 Z LZ)).lawful 𝓛,
-        (the_index_laws.lawful 𝓛, (chain_laws.the_row_laws.lawful 𝓛, (uint_Lawful 𝓛 w64, tt))),
+        (the_index_laws.lawful 𝓛, (chain_laws.the_row_laws.lawful 𝓛, (uint_Lawful 𝓛 w64, ((marker_laws.the_row_laws C (param_laws 2 X LX)).lawful 𝓛, tt)))),
       )
-          (a.values, (a.slots, (a.free, (a.issued, tt)))) rb ro 0
+          (a.values, (a.slots, (a.free, (a.issued, (a.kind, tt))))) rb ro 0
 
       -- the map with these values in its places
       module _ (d : D) (viewed : Viewed d a) where
@@ -157,11 +162,11 @@ module _ (Y Z : RattleType) (g : alloc.Ghosts Z.Denot) where
         returns_whole : (ws : List Y.Denot) → ent 𝓤 (sep 𝓤 (sem 𝓛 (part_at Bk full_share (written ws) rb (ro + block_at))) (sep 𝓤 (sem 𝓛 (fsep Index Others)) Gaps)) (sem 𝓛 (Whole.own_at (next ws) rb ro))
         unfolding part_of
         returns_whole ws =
-            let n : In.Denot = record { values = written ws; slots = a.slots; free = a.free; issued = a.issued } in
+            let n : In.Denot = record { values = written ws; slots = a.slots; free = a.free; issued = a.issued; kind = a.kind } in
             qed 𝓛 (‵ (part_at Bk full_share (written ws) rb (ro + block_at)) ∷ ‵ (fsep Index Others) ∷ raw Gaps ∷ []) ∵
-            use3 𝓛 (‵ (part_at In full_share n rb ro)) (field_back 𝓛 full_share [] ms (written ws, (a.slots, (a.free, (a.issued, tt)))) rb ro 0) $
-            use1 𝓛 (‵ ((mem Mp).own_at (next ws) rb ro)) (Plain-in Mp In (map_laws.the_opens V A g) 𝓛 full_share (next ws) n
-            (view_made In D Mp.coded (view Y.Denot Z.Denot g) (invariant Y.Denot Z.Denot g) 𝓛 (next ws) n (refl, stays-lent viewed.1 ws)) rb ro) $
+            use3 𝓛 (‵ (part_at In full_share n rb ro)) (field_back 𝓛 full_share [] ms (written ws, (a.slots, (a.free, (a.issued, (a.kind, tt))))) rb ro 0) $
+            use1 𝓛 (‵ ((mem Mp).own_at (next ws) rb ro)) (Plain-in Mp In (map_laws.the_opens V A C g) 𝓛 full_share (next ws) n
+            (view_made In D Mp.coded (view Y.Denot Z.Denot X.Denot g) (invariant Y.Denot Z.Denot X.Denot g) 𝓛 (next ws) n (refl, stays-lent viewed.1 ws)) rb ro) $
             rewrite ! 0 (λ (u : D). ‵ ((mem Mp).own_at u rb ro)) (sym (fixed ws)) refl $ done !
 
         module _ (κ : Lft) (δ tie₀ tie : GName) (u : Gv) where
@@ -216,7 +221,7 @@ module _ (Y Z : RattleType) (g : alloc.Ghosts Z.Denot) where
           (takes_part 𝓛 (mem Mp) (Followed d) (following d) κ q rb ro rb ro γ (emp 𝓤) (keeps d) c c d) $ await t z $ pick t (λ tie.
           split3 t $ move t (2 ∷ []) $ split t $ use1 𝓛 (‵ (flft κ (Share.left q)) ⊛ ‵ (flft κ (Share.right q))) (𝓛.lfts.lft_split κ q) $ split t $ move t (3 ∷ 4 ∷ 0 ∷ []) $
           open_ref t z (Followed d) {x = d} {b = rb} {o = ro} $ rewrite t 0 (λ (u : D). ‵ ((mem Mp).own_at u rb ro)) (itself d) refl $
-          use1 𝓛 (some (λ (x : (a : In.Denot) × Viewed d a). ‵ (part_at In full_share x.0 rb ro))) (plain_out Mp In (map_laws.the_opens V A g) 𝓛 full_share d rb ro) $ pick t (λ x. let a = x.0 in
+          use1 𝓛 (some (λ (x : (a : In.Denot) × Viewed d a). ‵ (part_at In full_share x.0 rb ro))) (plain_out Mp In (map_laws.the_opens V A C g) 𝓛 full_share d rb ro) $ pick t (λ x. let a = x.0 in
           use1 𝓛 (‵ (part_at Bk full_share a.values rb (ro + block_at)) ⊛ ‵ (fsep (Index a) (Others a)) ⊛ raw (Gaps a)) (takes_apart a) $ split3 t $ move t (3 ∷ []) $ ages t (λ n.
           name_new t z (Bk.coded.code a.values) (λ δ. move t (3 ∷ 1 ∷ []) $ fjoin t $ fpack t Bk.Denot (λ y. fsep ((mem Bk).own_at y rb (ro + block_at)) (fauth δ (Bk.coded.code y))) a.values $ bor_new_deep t z n κ $
           move t (4 ∷ []) $ fsplit t $ bor_new_deep t z n κ $ move t (5 ∷ 3 ∷ 10 ∷ 0 ∷ 6 ∷ 4 ∷ 1 ∷ 2 ∷ 7 ∷ 8 ∷ 9 ∷ 11 ∷ []) $ next a x.1 tie δ n))))

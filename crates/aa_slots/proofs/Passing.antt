@@ -1,5 +1,5 @@
 -- The pairs before and after a cursor, as it passes the slots.
-use Rattle.aa_slots.proofs.Common.{AreFree, AreHeld, Held, Key, List, None, Option, Some, State, [], ap, arith, drop, entries_from, get_or, is_some, length, refl, seen, slice_get, slice_set, slot_at, state_at, subst, suc, sym, take, true, value_under, ℕ, ⊤, ◌++◌, ◌+◌, ◌<◌, ◌∙◌, ◌∷◌, ◌≡◌, ◌≤◌}
+use Rattle.aa_slots.proofs.Common.{AreFree, AreHeld, Held, KeyData, List, None, Option, Some, State, [], ap, arith, drop, entries_from, get_or, is_some, length, refl, seen, slice_get, slice_set, slot_at, state_at, subst, suc, sym, take, true, value_under, ℕ, ⊤, ◌++◌, ◌+◌, ◌<◌, ◌∙◌, ◌∷◌, ◌≡◌, ◌≤◌}
 use Rattle.aa_slots.proofs.Iterating.{entries-push}
 use Rattle.aa_slots.proofs.Remaining.{rest-next, rest-none, rest-onward}
 use Rattle.aa_slots.proofs.Seen.{length-seen, slot-free, value-of}
@@ -11,7 +11,7 @@ use Rattle.std.specs.Option.{option_map}
 
 module _ {T : Type 0} where
   -- the key of the first pair in the slots from one on
-  pub first-is : (ss : List State) (cs : List (Option (⊤ × T))) (from : ℕ) (k : Key)
+  pub first-is : (ss : List State) (cs : List (Option (⊤ × T))) (from : ℕ) (k : KeyData)
       → AreHeld ss cs → from ≤ k.index → k.index < length ss
       → state_at ss k.index ≡ Held k.serial → AreFree ss from k.index
       → Some k ≡ option_map (λ e. e.0) (slice_get (entries_from from (drop from (seen ss cs))) 0)
@@ -45,8 +45,8 @@ module _ {T : Type 0} where
       ∙ ap (λ k. entries_from (i + 1) xs ++ entries_from k ys) same)
 
   -- where the first of some pairs is
-  pub record Located (i : ℕ) (ss : List (Option (ℕ × T))) (e : Key
-      × T) (es : List (Key × T)) : Type 0 where
+  pub record Located (i : ℕ) (ss : List (Option (ℕ × T))) (e : KeyData
+      × T) (es : List (KeyData × T)) : Type 0 where
     pub n : ℕ
     pub index : e.0.index ≡ i + n
     pub within : n < length ss
@@ -54,7 +54,7 @@ module _ {T : Type 0} where
     pub none : entries_from i (take n ss) ≡ []
     pub rest : entries_from (suc e.0.index) (drop (suc n) ss) ≡ es
 
-  located : (i : ℕ) (ss : List (Option (ℕ × T))) (e : Key × T) (es : List (Key × T))
+  located : (i : ℕ) (ss : List (Option (ℕ × T))) (e : KeyData × T) (es : List (KeyData × T))
       → entries_from i ss ≡ e ∷ es → Located i ss e es
   located i [] e es p = absurd (cc)
   located i (None ∷ ss) e es p = let l = located (i + 1) ss e es p in
@@ -83,19 +83,19 @@ module _ {T : Type 0} where
             ap (λ k. entries_from k ss) next ∙ b;
       }
 
-  module _ (slots : List (Option (ℕ × T))) (at : ℕ) (key : Key) (found : Some key
+  module _ (slots : List (Option (ℕ × T))) (at : ℕ) (key : KeyData) (found : Some key
       ≡ option_map (λ e. e.0) (slice_get (entries_from at (drop at slots)) 0)) where
-    abbrev pub left : List (Key × T)
+    abbrev pub left : List (KeyData × T)
     left = entries_from at (drop at slots)
 
     -- the first pair, and where it is
     pub record First : Type 0 where
       pub x : T
-      pub rest : List (Key × T)
+      pub rest : List (KeyData × T)
       pub is : left ≡ (key, x) ∷ rest
       pub place : Located at (drop at slots) (key, x) rest
 
-    pub first-of : (es : List (Key × T)) → left ≡ es → First
+    pub first-of : (es : List (KeyData × T)) → left ≡ es → First
     first-of [] p =
         absurd (let n : Some key ≡ None = found
         ∙ ap (λ l. option_map (λ e. e.0) (slice_get l 0)) p in cc)
@@ -192,48 +192,48 @@ module _ {T : Type 0} where
         ++ entries_from i (drop (k + 1) (written w))) long
 
     -- the same of the key of the first pair
-    abbrev pub slots_with : Key → T → List (Option (ℕ × T))
+    abbrev pub slots_with : KeyData → T → List (Option (ℕ × T))
     slots_with k w = slice_set slots k.index (Some (k.serial, w))
 
     pub before-lent : (w : T) → let k = first_key left in
         entries_from 0 (take (k.index + 1) (slots_with k w)) ≡ entries_from 0 (take at slots)
         ++ (k, w) ∷ []
     before-lent w =
-        subst (λ (k : Key). entries_from 0 (take (k.index + 1) (slots_with k w))
+        subst (λ (k : KeyData). entries_from 0 (take (k.index + 1) (slots_with k w))
         ≡ entries_from 0 (take at slots) ++ (k, w) ∷ []) (sym is-first) (before-passed w)
 
     pub after-lent : (w : T) → let k = first_key left in
         entries_from (k.index + 1) (drop (k.index + 1) (slots_with k w)) ≡ drop 1 left
     after-lent w =
-        subst (λ (k : Key). entries_from (k.index + 1) (drop (k.index + 1) (slots_with k w))
+        subst (λ (k : KeyData). entries_from (k.index + 1) (drop (k.index + 1) (slots_with k w))
         ≡ drop 1 left) (sym is-first) (after-passed w)
 
     pub whole-lent : (w : T) → let k = first_key left in
         entries_from 0 (slots_with k w) ≡ entries_from 0 (take (k.index + 1) (slots_with k w))
         ++ entries_from (k.index + 1) (drop (k.index + 1) (slots_with k w))
     whole-lent w =
-        subst (λ (k : Key). entries_from 0 (slots_with k w)
+        subst (λ (k : KeyData). entries_from 0 (slots_with k w)
         ≡ entries_from 0 (take (k.index + 1) (slots_with k w))
         ++ entries_from (k.index + 1) (drop (k.index + 1) (slots_with k w)))
         (sym is-first) (whole-passed w)
 
 -- values that are written one after another
 module _ {T : Type 0} (w : T) where
-  abbrev pub filled : List (Key × T) → List (Key × T)
+  abbrev pub filled : List (KeyData × T) → List (KeyData × T)
   filled es = map (λ e. (e.0, w)) es
 
-  joined : (bs : List (Key × T)) (e : Key × T) (cs : List (Key × T)) → (bs ++ e ∷ []) ++ cs
+  joined : (bs : List (KeyData × T)) (e : KeyData × T) (cs : List (KeyData × T)) → (bs ++ e ∷ []) ++ cs
       ≡ bs ++ e ∷ cs
   joined [] e cs = refl
   joined (b ∷ bs) e cs = ap (λ l. b ∷ l) (joined bs e cs)
 
-  pub filled-next : (bs rest : List (Key × T)) (x : T)
+  pub filled-next : (bs rest : List (KeyData × T)) (x : T)
       → Some x ≡ option_map (λ e. e.1) (slice_get rest 0)
       → (bs ++ (first_key rest, w) ∷ []) ++ filled (drop 1 rest) ≡ bs ++ filled rest
   filled-next bs [] x h = absurd (cc)
   filled-next bs (e ∷ rest) x h = joined bs (e.0, w) (filled rest)
 
-  pub filled-all : (bs rest : List (Key × T))
+  pub filled-all : (bs rest : List (KeyData × T))
       → None ≡ option_map (λ e. e.1) (slice_get rest 0) → bs ++ rest ≡ bs ++ filled rest
   filled-all bs [] h = refl
   filled-all bs (e ∷ rest) h = absurd (cc)

@@ -1,5 +1,5 @@
 -- The remaining pairs of an iterator, after the next slot with a value, or the last.
-use Rattle.aa_slots.proofs.Common.{AreFree, AreHeld, Held, IsRest, Key, List, None, Option, Some, State, [], ap, arith, cases_lt, count, drop, entries_from, get_or, get_or-set_other, inl, inr, is_some, length, length-append, length-set, refl, rest_of, seen, slice_set, slot_at, state_at, subst, suc, sym, take, zero, ℕ, ⊤, ◌++◌, ◌+◌, ◌-◌, ◌<◌, ◌∙◌, ◌∷◌, ◌≡◌, ◌≢◌, ◌≤◌}
+use Rattle.aa_slots.proofs.Common.{AreFree, AreHeld, Held, IsRest, KeyData, List, None, Option, Some, State, [], ap, arith, cases_lt, count, drop, entries_from, get_or, get_or-set_other, inl, inr, is_some, length, length-append, length-set, refl, rest_of, seen, slice_set, slot_at, state_at, subst, suc, sym, take, zero, ℕ, ⊤, ◌++◌, ◌+◌, ◌-◌, ◌<◌, ◌∙◌, ◌∷◌, ◌≡◌, ◌≢◌, ◌≤◌}
 use Rattle.aa_slots.proofs.Finds.{length-entries}
 use Rattle.aa_slots.proofs.Iterating.{entries-cons, entries-push, pairs_of}
 use Rattle.aa_slots.proofs.Seen.{length-seen, seen-emptied, slot-free, slot-seen}
@@ -138,7 +138,7 @@ module _ {T : Type 0} where
     pub none-left : AreFree ss from end → rest_of (seen ss cs) from end ≡ []
     none-left h = rest-none (seen ss cs) from end few (λ i a b. slot-free ss cs i (h i a b))
 
-    module _ (k : Key) (e : ⊤ × T) (there : (from ≤ k.index) × (k.index < end)) (is : state_at ss k.index ≡ Held k.serial) (here : get_or cs k.index None ≡ Some e) where
+    module _ (k : KeyData) (e : ⊤ × T) (there : (from ≤ k.index) × (k.index < end)) (is : state_at ss k.index ≡ Held k.serial) (here : get_or cs k.index None ≡ Some e) where
       slot : slot_at (seen ss cs) k.index ≡ Some (k.serial, e.1)
       slot = rw (slot-seen ss cs k.index, is, here) refl
 

@@ -1,5 +1,5 @@
 -- The slots while `retain` passes over them.
-use Rattle.aa_slots.proofs.Common.{Key, List, None, Option, Slotted, Some, [], ap, arith, cond, entries_from, false, find, length, length-set, refl, slice_set, slot_at, suc, sym, true, value_under, with_value, zero, ℕ, ◌++◌, ◌+◌, ◌<◌, ◌∙◌, ◌∷◌, ◌≡◌, ◌≤◌}
+use Rattle.aa_slots.proofs.Common.{KeyData, List, None, Option, Slotted, Some, [], ap, arith, cond, entries_from, false, find, length, length-set, refl, slice_set, slot_at, suc, sym, true, value_under, with_value, zero, ℕ, ◌++◌, ◌+◌, ◌<◌, ◌∙◌, ◌∷◌, ◌≡◌, ◌≤◌}
 use Rattle.std.proofs.Common.{Bool, MutBor, drop, option_map, subst, take}
 use Rattle.std.proofs.lemmas.Bool.Decides.{nat_tests}
 use Rattle.std.proofs.lemmas.List.{append-nil, append_assoc, drop-set-lt, drop_all, drop_more, get_or-set_same, take_all, take_more, take_more_set}
@@ -19,7 +19,7 @@ module _ {T : Type 0} where
   under-some (Some e) serial x h = grind (arith, nat_tests, h)
 
   -- a value that was written is found
-  pub found-written : (m : Slotted T) (k : Key) (x y : T) → find m k ≡ Some x
+  pub found-written : (m : Slotted T) (k : KeyData) (x y : T) → find m k ≡ Some x
       → find (with_value m k y) k ≡ Some y
   found-written m k x y h =
       let is = under-some (slot_at m.slots k.index) k.serial x h in
@@ -28,7 +28,7 @@ module _ {T : Type 0} where
       rw read (grind (arith, nat_tests))
 
   -- the slot of a key whose value is found
-  pub called-slot : (ss : List (Option (ℕ × T))) (i : ℕ) (k : Key) (x : T)
+  pub called-slot : (ss : List (Option (ℕ × T))) (i : ℕ) (k : KeyData) (x : T)
       (o : Option (ℕ × T)) → slot_at ss i ≡ o
       → option_map (λ e. record { index = i; serial = e.0 }) o ≡ Some k
       → value_under k.serial (slot_at ss k.index) ≡ Some x
@@ -38,7 +38,7 @@ module _ {T : Type 0} where
       let same : k.index ≡ i = grind (arith, e) in
       (same, rw same at (under-some (slot_at ss k.index) k.serial x h))
 
-module _ {T F : Type 0} (step : F → Key → MutBor T → Bool → MutBor T → F → Type 0) where
+module _ {T F : Type 0} (step : F → KeyData → MutBor T → Bool → MutBor T → F → Type 0) where
   -- `f` was called for each key of the slots from index `i` on, in order, and is `g` then; the
   -- slots are `kept` then: a value for which it returned `true` is as the call left it, and others
   -- are removed
@@ -52,7 +52,7 @@ module _ {T F : Type 0} (step : F → Key → MutBor T → Bool → MutBor T →
       × (others : List (Option (ℕ × T)))
       × (kept ≡ (if keep then Some (e.0, y) else None) ∷ others) × KeepsSlots next (i + 1) ss others g
 
-  pub may-return : (f : F) (k : Key) (before : MutBor T) (keep : Bool) (after : MutBor T) (g : F)
+  pub may-return : (f : F) (k : KeyData) (before : MutBor T) (keep : Bool) (after : MutBor T) (g : F)
       → step f k before keep after g → MayReturn step f k before.now keep after.now g
   may-return f k before keep after g call =
       record { before = before; given = refl; after = after; left = refl; call = call }
@@ -92,7 +92,7 @@ module _ {T F : Type 0} (step : F → Key → MutBor T → Bool → MutBor T →
     )
 
     -- and over one whose value the closure was called for
-    pub passed-called : (k : Key) (x y : T) (keep : Bool) (g : F) → k.index ≡ i
+    pub passed-called : (k : KeyData) (x y : T) (keep : Bool) (g : F) → k.index ≡ i
         → slot_at now i ≡ Some (k.serial, x) → MayReturn step f k x keep y g
         → IsPassed first old g
         (slice_set now k.index (cond keep (Some (k.serial, y)) None)) (i + 1)
@@ -100,7 +100,7 @@ module _ {T F : Type 0} (step : F → Key → MutBor T → Bool → MutBor T →
         let slot : Option (ℕ × T) = cond keep (Some (k.serial, y)) None in
         let key : k ≡ record { index = i; serial = k.serial } =
         λ t. record { index = same t; serial = k.serial } in
-        let called = subst (λ (j : Key). MayReturn step f j x keep y g) key call in
+        let called = subst (λ (j : KeyData). MayReturn step f j x keep y g) key call in
         rw same (
           length-set now i slot ∙ inv.0,
           drop-set-lt (i + 1) now i slot (omega arith) ∙ rests,

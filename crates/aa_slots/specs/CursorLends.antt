@@ -9,7 +9,7 @@ use Rattle.aa_slots.specs.contracts.cursor.CursorMut.{the_row}
 
 -- the cursor `c` has passed the value, which is the last one written through `r`, or is unchanged
 -- if `r` is `None`
-abbrev pub lends_next : (T A : RattleType) (g : Ghosts A.Denot)
-    → MutBor (CursorMut T.Denot A.Denot) → Option (MutBor T.Denot) → Fml
-lends_next T A g c r =
-    LendsIf (the_row (record { mir = named 1; lft = [] }) T A g) T c r (passed c.now) c.now
+abbrev pub lends_next : (T A K : RattleType) (g : Ghosts A.Denot)
+    → MutBor (CursorMut T.Denot A.Denot K.Denot) → Option (MutBor T.Denot) → Fml
+lends_next T A K g c r =
+    LendsIf (the_row (record { mir = named 1; lft = [] }) T A K g) T c r (passed c.now) c.now

@@ -3,7 +3,7 @@ use Rattle.std.specs.Prelude.{◌≡◌, ℕ, ◌+◌, ◌-◌, ◌/◌, ◌%◌
 use Rattle.std.specs.List.{IsDistinct}
 use Rattle.allocator_api2.specs.Places.{IsFilled}
 use Rattle.allocator_api2.specs.Vector.{Vector}
-use Rattle.aa_slots.specs.declared.map.Key.{Key}
+use Rattle.aa_slots.specs.declared.key.KeyData.{KeyData}
 use Rattle.aa_slots.specs.declared.slots.Chain.{Chain}
 use Rattle.aa_slots.specs.declared.slots.State.{State}
 use Rattle.aa_slots.specs.declared.slots.State.TheVariants.{Free, Held}
@@ -108,7 +108,7 @@ module _ {T : Type 0} where
       record { slots = seen (states_of slots) cs; capacity = capacity_of slots; issued = issued }
 
   -- the keys and values in the slots from index `from` on and before `end`
-  abbrev pub rest_of : List (Option (ℕ × T)) → (from end : ℕ) → List (Key × T)
+  abbrev pub rest_of : List (Option (ℕ × T)) → (from end : ℕ) → List (KeyData × T)
   rest_of ss from end = entries_from from (take (end - from) (drop from ss))
 
   -- an iterator over the slots from index `from` on and before `end` has `n` more values

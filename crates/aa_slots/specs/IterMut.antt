@@ -3,11 +3,11 @@ use Rattle.std.specs.Prelude.{◌≡◌, ℕ, List, Option, length, map}
 use base.Fml.{GName}
 use Rattle.aa_slots.specs.IterMutLends.{with_values_of}
 use Rattle.aa_slots.specs.Slotted.{entries_from}
-use Rattle.aa_slots.specs.declared.map.Key.{Key}
+use Rattle.aa_slots.specs.declared.key.KeyData.{KeyData}
 
 -- the pairs that remain, and the name of the borrow of the map
 pub record Lent (T : Type 0) : Type 0 where
-  pub entries : List (Key × T)
+  pub entries : List (KeyData × T)
   pub borrow : GName
 
 module _ {T : Type 0} where

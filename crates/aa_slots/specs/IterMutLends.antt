@@ -21,10 +21,10 @@ module _ {T : Type 0} where
   with_values_of (s ∷ ss) (t ∷ ts) = with_value_of s t ∷ with_values_of ss ts
 
 -- the final state of the map `m`: each key has the last value written through the borrow `n`
-abbrev pub lends_values : (T A : RattleType) (g : Ghosts A.Denot) → MutBor (Slotted T.Denot)
+abbrev pub lends_values : (T A K : RattleType) (g : Ghosts A.Denot) → MutBor (Slotted T.Denot)
     → GName → Fml
-lends_values T A g m n =
-    let R = the_row T A g in
+lends_values T A K g m n =
+    let R = the_row T A K g in
     follows R R m.ghost_name n
     (λ u. record {
       slots = with_values_of m.now.slots u.slots;

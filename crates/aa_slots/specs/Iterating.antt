@@ -2,10 +2,10 @@
 use Rattle.std.specs.Borrow.{Bor}
 use Rattle.std.specs.Iterator.{YieldsFirstBy, YieldsLastBy}
 use Rattle.std.specs.Iterator.Runs.{EveryRun, ItemsMapTo, ItemsMapToReversed}
-use Rattle.aa_slots.specs.declared.map.Key.{Key}
+use Rattle.aa_slots.specs.declared.key.KeyData.{KeyData}
 
 -- an item of the iterator as a key and the value that it refers to
-abbrev pub pair_of : {T : Type 0} → Key × Bor T → Key × T
+abbrev pub pair_of : {T : Type 0} → KeyData × Bor T → KeyData × T
 pair_of item = (item.0, item.1.now)
 
 -- each run of `next` yields the pairs that remained, in order

@@ -1,12 +1,12 @@
 -- What `retain` leaves of the pairs, by the results of its closure.
 use Rattle.std.specs.Prelude.{◌≡◌, Bool, List, [], ◌∷◌, if◌then◌else◌}
 use Rattle.std.specs.Borrow.{MutBor}
-use Rattle.aa_slots.specs.declared.map.Key.{Key}
+use Rattle.aa_slots.specs.declared.key.KeyData.{KeyData}
 
-module _ {T F : Type 0} (step : F → Key → MutBor T → Bool → MutBor T → F → Type 0) where
+module _ {T F : Type 0} (step : F → KeyData → MutBor T → Bool → MutBor T → F → Type 0) where
   -- a call of `f` for the key `k` and its value `x` may return `keep`, with `y` as the value and
   -- the closure as `g` then
-  pub record MayReturn (f : F) (k : Key) (x : T) (keep : Bool) (y : T) (g : F) : Type 0 where
+  pub record MayReturn (f : F) (k : KeyData) (x : T) (keep : Bool) (y : T) (g : F) : Type 0 where
     pub before : MutBor T
     pub given : before.now ≡ x
     pub after : MutBor T
@@ -15,9 +15,9 @@ module _ {T F : Type 0} (step : F → Key → MutBor T → Bool → MutBor T →
 
   -- `f` was called for each of the pairs `es`, in order, and is `g` then; the pairs are `kept` then:
   -- a value for which it returned `true` is as the call left it, and others are removed
-  abbrev pub Keeps : (f : F) → (es kept : List (Key × T)) → (g : F) → Type 0
+  abbrev pub Keeps : (f : F) → (es kept : List (KeyData × T)) → (g : F) → Type 0
   Keeps f [] kept g = (kept ≡ []) × (g ≡ f)
   Keeps f (e ∷ es) kept g =
       (keep : Bool) × (y : T) × (next : F) × MayReturn f e.0 e.1 keep y next
-      × (others : List (Key × T))
+      × (others : List (KeyData × T))
       × (kept ≡ (if keep then (e.0, y) ∷ others else others)) × Keeps next es others g

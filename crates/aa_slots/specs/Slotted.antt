@@ -2,7 +2,7 @@
 use Rattle.std.specs.Prelude.{◌≡◌, ℕ, zero, suc, ◌+◌, ◌-◌, ◌≤◌, ◌&&◌, Bool, max, List, [], ◌∷◌, length, count_by, is_some, Option, None, Some, nat_eq, nat_le, if◌then◌else◌, slice_index_or, slice_set}
 use Rattle.std.specs.Cmp.Lexicographic.{pointwise}
 use Rattle.std.specs.List.{AllZip}
-use Rattle.aa_slots.specs.declared.map.Key.{Key}
+use Rattle.aa_slots.specs.declared.key.KeyData.{KeyData}
 
 -- the view of a slot map: its slots, each free or with the serial of a key and its value; the
 -- number of values that it can hold without another allocation; and the number of keys issued
@@ -37,17 +37,17 @@ module _ {T : Type 0} where
   count ss = count_by is_some ss
 
   -- the value of the key `k` in the map `m`
-  abbrev pub find : Slotted T → Key → Option T
+  abbrev pub find : Slotted T → KeyData → Option T
   find m k = value_under k.serial (slot_at m.slots k.index)
 
   -- the keys and values of the slots that begin at index `i`
-  abbrev pub entries_from : (i : ℕ) → List (Option (ℕ × T)) → List (Key × T)
+  abbrev pub entries_from : (i : ℕ) → List (Option (ℕ × T)) → List (KeyData × T)
   entries_from i [] = []
   entries_from i (None ∷ ss) = entries_from (i + 1) ss
   entries_from i (Some e ∷ ss) = (record { index = i; serial = e.0 }, e.1) ∷ entries_from (i + 1) ss
 
   -- the keys and values of the map `m`, in the order of the slots
-  abbrev pub entries : Slotted T → List (Key × T)
+  abbrev pub entries : Slotted T → List (KeyData × T)
   entries m = entries_from 0 m.slots
 
   -- the map `m` has spare capacity for `k` more values
@@ -64,18 +64,18 @@ module _ {T : Type 0} where
       }
 
   -- `new` has the key `k` with the value `x` in a slot that is free in `ss`, or in the next one
-  pub record Puts (ss : List (Option (ℕ × T))) (k : Key) (x : T)
+  pub record Puts (ss : List (Option (ℕ × T))) (k : KeyData) (x : T)
       (new : List (Option (ℕ × T))) : Type 0 where
     pub free : slot_at ss k.index ≡ None
     pub within : k.index ≤ length ss
     pub put : new ≡ with_at ss k.index (Some (k.serial, x))
 
   -- the map `m` with the value `x` for the key `k`, which has one
-  abbrev pub with_value : Slotted T → Key → T → Slotted T
+  abbrev pub with_value : Slotted T → KeyData → T → Slotted T
   with_value m k x = record m { slots = slice_set m.slots k.index (Some (k.serial, x)) }
 
   -- the map `m` without the value of the key `k`, which has one
-  abbrev pub without : Slotted T → Key → Slotted T
+  abbrev pub without : Slotted T → KeyData → Slotted T
   without m k = record m { slots = slice_set m.slots k.index None }
 
   -- the map `m` without its values
@@ -95,7 +95,7 @@ module _ {T : Type 0} where
     pub issued : copy.issued ≡ m.issued
 
   -- the keys are equal, and so are the values by `same`
-  abbrev pub same_entry : (same : T → T → Bool) → Key × T → Key × T → Bool
+  abbrev pub same_entry : (same : T → T → Bool) → KeyData × T → KeyData × T → Bool
   same_entry same e f =
       (nat_eq e.0.index f.0.index && nat_eq e.0.serial f.0.serial) && same e.1 f.1
 

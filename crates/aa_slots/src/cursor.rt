@@ -13,13 +13,13 @@ use std::ops::IndexMut;
 /// Returned by `SlotMap::cursor_mut`. A contract sees it as the pairs before it, those after it,
 /// and the borrowed map. A cursor is not an `Iterator`: each value is borrowed until the next call.
 #[derive(Drop)]
-pub struct CursorMut<'a, T, A: Allocator> {
-    pub(crate) map: &'a mut SlotMap<T, A>,
+pub struct CursorMut<'a, T, A: Allocator, K = ()> {
+    pub(crate) map: &'a mut SlotMap<T, A, K>,
     // the index of the next slot
     pub(crate) at: usize,
 }
 
-impl<T: Drop, A: Allocator> SlotMap<T, A> {
+impl<T: Drop, A: Allocator, K> SlotMap<T, A, K> {
     ghost use Rattle.aa_slots.specs.Passing.{before, cursor_lender, cursor_map, remaining};
 
     /// Writes copies of `value` in place of all values.
@@ -39,7 +39,7 @@ impl<T: Drop, A: Allocator> SlotMap<T, A> {
     }
 
     /// Returns a cursor before the first value.
-    pub fn cursor_mut(&mut self) -> CursorMut<'_, T, A>
+    pub fn cursor_mut(&mut self) -> CursorMut<'_, T, A, K>
         ensures lender { cursor_lender result ≡ self.entry.ghost_name }
         ensures unchanged { cursor_map result ≡ self.old }
         ensures before { before result ≡ [] }
@@ -49,22 +49,23 @@ impl<T: Drop, A: Allocator> SlotMap<T, A> {
     }
 }
 
-impl<'a, T: Drop, A: Allocator> CursorMut<'a, T, A> {
+impl<'a, T: Drop, A: Allocator, K> CursorMut<'a, T, A, K> {
     ghost use Rattle.aa_slots.specs.Passing.{before, cursor_map, first_key, passed, remaining};
     ghost use Rattle.aa_slots.specs.CursorLends.{lends_next};
 
     /// Returns the key of the next value, or `None` if none remains.
-    pub fn peek_key(&self) -> Option<Key>
+    pub fn peek_key(&self) -> Option<Key<K>>
         ensures { result ≡ option_map (λ e. e.0) (slice_get (remaining self.now) 0) }
     {
-        self.map.key_from(self.at)
+        let data = self.map.key_from(self.at)?;
+        Some(Key::from(data))
     }
 
     /// Advances the cursor past a value, and returns a mutable reference to it.
     ///
     /// Returns `None` if none remains.
     pub fn next(&mut self) -> Option<&mut T>
-        ensures* writes_back { sem 𝓛 (lends_next T.row A.row A.Allocator self.entry result) }
+        ensures* writes_back { sem 𝓛 (lends_next T.row A.row K.row A.Allocator self.entry result) }
         ensures value { option_copied_mut result
             ≡ option_map (λ e. e.1) (slice_get (remaining self.old) 0) }
 
@@ -79,7 +80,7 @@ impl<'a, T: Drop, A: Allocator> CursorMut<'a, T, A> {
         match self.map.key_from(self.at) {
             Some(key) => {
                 self.at = key.index + 1;
-                Some(self.map.index_mut(key))
+                Some(self.map.index_mut(Key::from(key)))
             }
             None => None,
         }

@@ -12,28 +12,29 @@ use allocator_api2::raw_vec::RawVec;
 use allocator_api2::vec::Vec;
 use std::alloc::Allocator;
 use std::iter::FusedIterator;
-use std::marker::Model;
+use std::marker::{Model, PhantomData};
 
 /// A double-ended iterator by value over the keys and values of a slot map, in the order of the
 /// slots.
 ///
 /// Returned by `SlotMap::into_iter`. When dropped, it drops the remaining values in order and
 /// deallocates the memory. A contract sees it as the list of the remaining pairs.
-pub struct IntoIter<T, A: Allocator> {
+pub struct IntoIter<T, A: Allocator, K = ()> {
     values: RawVec<((), T), A>,
     slots: Option<Vec<Slot, A>>,
     // where the remaining slots begin and end, and how many of them have a value
     at: usize,
     end: usize,
     left: usize,
+    kind: PhantomData<K>,
 }
 
-impl<T, A: Allocator> Model for IntoIter<T, A> {
+impl<T, A: Allocator, K> Model for IntoIter<T, A, K> {
     ghost use Rattle.std.specs.Prelude.{List};
-    ghost use Rattle.aa_slots.specs.declared.map.Key.{Key};
+    ghost use Rattle.aa_slots.specs.declared.key.KeyData.{KeyData};
     ghost use Rattle.aa_slots.specs.Inside.{rest_of, seen, states_of, IsRest};
 
-    ghost Value = { List (Key × T) };
+    ghost Value = { List (KeyData × T) };
 
     ghost view = { λ it. rest_of (seen (states_of it.slots) it.values.places) it.at it.end };
 
@@ -41,7 +42,7 @@ impl<T, A: Allocator> Model for IntoIter<T, A> {
         (states_of it.slots) it.values.places it.at it.end it.left };
 }
 
-impl<T, A: Allocator> IntoIter<T, A> {
+impl<T, A: Allocator, K> IntoIter<T, A, K> {
     /// Returns an iterator over all values of these slots, of which there are `left`.
     #[tactic(auto, using(crate::proofs::Remaining::all_slots))]
     pub(crate) fn over(slots: Option<Vec<Slot, A>>, values: RawVec<((), T), A>, left: usize) -> Self
@@ -56,11 +57,12 @@ impl<T, A: Allocator> IntoIter<T, A> {
             at: 0,
             end,
             left,
+            kind: PhantomData,
         }
     }
 }
 
-impl<T: Drop, A: Allocator> Drop for IntoIter<T, A> {
+impl<T: Drop, A: Allocator, K> Drop for IntoIter<T, A, K> {
     /// Drops the remaining values and frees the blocks.
     fn drop(self) {
         let IntoIter {
@@ -69,14 +71,15 @@ impl<T: Drop, A: Allocator> Drop for IntoIter<T, A> {
             at,
             end,
             left: _,
+            kind: _,
         } = self;
         drop_between(slots_in(&slots), &mut values, at, end);
         drop(slots);
     }
 }
 
-impl<T: Drop, A: Allocator> Iterator for IntoIter<T, A> {
-    type Item = (Key, T);
+impl<T: Drop, A: Allocator, K> Iterator for IntoIter<T, A, K> {
+    type Item = (Key<K>, T);
 
     ghost next_gives = { YieldsFirst (λ rest. rest) };
 
@@ -84,11 +87,11 @@ impl<T: Drop, A: Allocator> Iterator for IntoIter<T, A> {
 
     /// Returns the next key with its value, or `None` if none remains.
     #[tactic(auto, using(crate::proofs::Remaining::from_first))]
-    fn next(&mut self) -> Option<(Key, T)> {
+    fn next(&mut self) -> Option<(Key<K>, T)> {
         let key = first_held(slots_in(&self.slots), self.at, self.end)?;
         self.at = key.index + 1;
         self.left -= 1;
-        Some((key, self.values.take(key.index).1))
+        Some((Key::from(key), self.values.take(key.index).1))
     }
 
     /// Returns the exact number of the remaining pairs.
@@ -101,23 +104,23 @@ impl<T: Drop, A: Allocator> Iterator for IntoIter<T, A> {
     }
 }
 
-impl<T: Drop, A: Allocator> DoubleEndedIterator for IntoIter<T, A> {
+impl<T: Drop, A: Allocator, K> DoubleEndedIterator for IntoIter<T, A, K> {
     ghost next_back_gives = { YieldsLast (λ rest. rest) };
 
     /// Returns the last of the remaining keys with its value, or `None` if none remains.
     #[tactic(auto, using(crate::proofs::Remaining::from_last))]
-    fn next_back(&mut self) -> Option<(Key, T)> {
+    fn next_back(&mut self) -> Option<(Key<K>, T)> {
         let key = last_held(slots_in(&self.slots), self.at, self.end)?;
         self.end = key.index;
         self.left -= 1;
-        Some((key, self.values.take(key.index).1))
+        Some((Key::from(key), self.values.take(key.index).1))
     }
 }
 
-impl<T: Drop, A: Allocator> ExactSizeIterator for IntoIter<T, A> {
+impl<T: Drop, A: Allocator, K> ExactSizeIterator for IntoIter<T, A, K> {
     fn len(&self) -> usize {
         self.left
     }
 }
 
-impl<T: Drop, A: Allocator> FusedIterator for IntoIter<T, A> {}
+impl<T: Drop, A: Allocator, K> FusedIterator for IntoIter<T, A, K> {}

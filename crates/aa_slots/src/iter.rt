@@ -13,34 +13,35 @@ use std::alloc::{AllocError, Allocator};
 use std::fmt;
 use std::fmt::{Debug, Formatter};
 use std::iter::FusedIterator;
-use std::marker::Model;
+use std::marker::{Model, PhantomData};
 
 /// A double-ended iterator over the keys and values of a slot map, in the order of the slots.
 ///
 /// Returned by `SlotMap::iter`. A contract sees it as the list of the remaining pairs.
 #[derive(Drop)]
-pub struct Iter<'a, T, A: Allocator> {
+pub struct Iter<'a, T, A: Allocator, K = ()> {
     slots: &'a [Slot],
     values: &'a RawVec<((), T), A>,
     // where the remaining slots begin and end, and how many of them have a value
     at: usize,
     end: usize,
     left: usize,
+    kind: PhantomData<K>,
 }
 
-impl<'a, T, A: Allocator> Model for Iter<'a, T, A> {
+impl<'a, T, A: Allocator, K> Model for Iter<'a, T, A, K> {
     ghost use Rattle.std.specs.Prelude.{List};
-    ghost use Rattle.aa_slots.specs.declared.map.Key.{Key};
+    ghost use Rattle.aa_slots.specs.declared.key.KeyData.{KeyData};
     ghost use Rattle.aa_slots.specs.Inside.{rest_of, seen, IsRest};
 
-    ghost Value = { List (Key × T) };
+    ghost Value = { List (KeyData × T) };
 
     ghost view = { λ it. rest_of (seen it.slots.now it.values.now.places) it.at it.end };
 
     ghost invariant = { λ it. IsRest it.slots.now it.values.now.places it.at it.end it.left };
 }
 
-impl<'a, T, A: Allocator> Iter<'a, T, A> {
+impl<'a, T, A: Allocator, K> Iter<'a, T, A, K> {
     /// Returns an iterator over all values of these slots, of which there are `left`.
     #[tactic(auto, using(crate::proofs::Remaining::all_slots))]
     pub(crate) fn over(slots: &'a [Slot], values: &'a RawVec<((), T), A>, left: usize) -> Self
@@ -54,6 +55,7 @@ impl<'a, T, A: Allocator> Iter<'a, T, A> {
             at: 0,
             end: slots.len(),
             left,
+            kind: PhantomData,
         }
     }
 
@@ -67,12 +69,13 @@ impl<'a, T, A: Allocator> Iter<'a, T, A> {
             at: self.at,
             end: self.end,
             left: self.left,
+            kind: PhantomData,
         }
     }
 }
 
-impl<'a, T, A: Allocator> Iterator for Iter<'a, T, A> {
-    type Item = (Key, &'a T);
+impl<'a, T, A: Allocator, K> Iterator for Iter<'a, T, A, K> {
+    type Item = (Key<K>, &'a T);
 
     ghost next_gives = { YieldsFirstBy pair_of (λ rest. rest) };
 
@@ -80,12 +83,12 @@ impl<'a, T, A: Allocator> Iterator for Iter<'a, T, A> {
 
     /// Returns the next key with its value, or `None` if none remains.
     #[tactic(auto, using(crate::proofs::Remaining::from_first))]
-    fn next(&mut self) -> Option<(Key, &'a T)> {
+    fn next(&mut self) -> Option<(Key<K>, &'a T)> {
         let key = first_held(self.slots, self.at, self.end)?;
         let entry = self.values.place(key.index);
         self.at = key.index + 1;
         self.left -= 1;
-        Some((key, &entry.1))
+        Some((Key::from(key), &entry.1))
     }
 
     /// Returns the exact number of the remaining pairs.
@@ -98,29 +101,29 @@ impl<'a, T, A: Allocator> Iterator for Iter<'a, T, A> {
     }
 }
 
-impl<'a, T, A: Allocator> DoubleEndedIterator for Iter<'a, T, A> {
+impl<'a, T, A: Allocator, K> DoubleEndedIterator for Iter<'a, T, A, K> {
     ghost next_back_gives = { YieldsLastBy pair_of (λ rest. rest) };
 
     /// Returns the last of the remaining keys with its value, or `None` if none remains.
     #[tactic(auto, using(crate::proofs::Remaining::from_last))]
-    fn next_back(&mut self) -> Option<(Key, &'a T)> {
+    fn next_back(&mut self) -> Option<(Key<K>, &'a T)> {
         let key = last_held(self.slots, self.at, self.end)?;
         let entry = self.values.place(key.index);
         self.end = key.index;
         self.left -= 1;
-        Some((key, &entry.1))
+        Some((Key::from(key), &entry.1))
     }
 }
 
-impl<'a, T, A: Allocator> ExactSizeIterator for Iter<'a, T, A> {
+impl<'a, T, A: Allocator, K> ExactSizeIterator for Iter<'a, T, A, K> {
     fn len(&self) -> usize {
         self.left
     }
 }
 
-impl<'a, T, A: Allocator> FusedIterator for Iter<'a, T, A> {}
+impl<'a, T, A: Allocator, K> FusedIterator for Iter<'a, T, A, K> {}
 
-impl<'a, T, A: Allocator> Clone for Iter<'a, T, A> {
+impl<'a, T, A: Allocator, K> Clone for Iter<'a, T, A, K> {
     ghost is_clone = { λ it copy. copy ≡ it };
 
     ghost is_infallible = { λ _. ⊤ };
@@ -131,7 +134,7 @@ impl<'a, T, A: Allocator> Clone for Iter<'a, T, A> {
     }
 }
 
-impl<'a, T: Debug, A: Allocator> Debug for Iter<'a, T, A> {
+impl<'a, T: Debug, A: Allocator, K> Debug for Iter<'a, T, A, K> {
     /// Formats the remaining pairs as a list.
     fn fmt<W: fmt::Write>(&self, f: &mut Formatter<W>) -> fmt::Result {
         f.debug_list().entries(self.duplicate()).finish()
@@ -142,28 +145,28 @@ impl<'a, T: Debug, A: Allocator> Debug for Iter<'a, T, A> {
 ///
 /// Returned by `SlotMap::keys`. A contract sees it as the list of the remaining keys.
 #[derive(Drop)]
-pub struct Keys<'a, T, A: Allocator> {
-    pub(crate) rest: Iter<'a, T, A>,
+pub struct Keys<'a, T, A: Allocator, K = ()> {
+    pub(crate) rest: Iter<'a, T, A, K>,
 }
 
-impl<'a, T, A: Allocator> Model for Keys<'a, T, A> {
+impl<'a, T, A: Allocator, K> Model for Keys<'a, T, A, K> {
     ghost use Rattle.std.specs.Prelude.{List, map};
-    ghost use Rattle.aa_slots.specs.declared.map.Key.{Key};
+    ghost use Rattle.aa_slots.specs.declared.key.KeyData.{KeyData};
 
-    ghost Value = { List Key };
+    ghost Value = { List KeyData };
 
-    ghost view = { λ it. map (λ (e : Key × T). e.0) it.rest };
+    ghost view = { λ it. map (λ (e : KeyData × T). e.0) it.rest };
 }
 
-impl<'a, T, A: Allocator> Iterator for Keys<'a, T, A> {
-    type Item = Key;
+impl<'a, T, A: Allocator, K> Iterator for Keys<'a, T, A, K> {
+    type Item = Key<K>;
 
     ghost next_gives = { YieldsFirst (λ rest. rest) };
 
     ghost remaining = { item_count (λ rest. rest) };
 
     /// Returns the next key, or `None` if none remains.
-    fn next(&mut self) -> Option<Key> {
+    fn next(&mut self) -> Option<Key<K>> {
         match self.rest.next() {
             Some((key, _)) => Some(key),
             None => None,
@@ -180,11 +183,11 @@ impl<'a, T, A: Allocator> Iterator for Keys<'a, T, A> {
     }
 }
 
-impl<'a, T, A: Allocator> DoubleEndedIterator for Keys<'a, T, A> {
+impl<'a, T, A: Allocator, K> DoubleEndedIterator for Keys<'a, T, A, K> {
     ghost next_back_gives = { YieldsLast (λ rest. rest) };
 
     /// Returns the last of the remaining keys, or `None` if none remains.
-    fn next_back(&mut self) -> Option<Key> {
+    fn next_back(&mut self) -> Option<Key<K>> {
         match self.rest.next_back() {
             Some((key, _)) => Some(key),
             None => None,
@@ -192,32 +195,32 @@ impl<'a, T, A: Allocator> DoubleEndedIterator for Keys<'a, T, A> {
     }
 }
 
-impl<'a, T, A: Allocator> ExactSizeIterator for Keys<'a, T, A> {
+impl<'a, T, A: Allocator, K> ExactSizeIterator for Keys<'a, T, A, K> {
     fn len(&self) -> usize {
         self.rest.len()
     }
 }
 
-impl<'a, T, A: Allocator> FusedIterator for Keys<'a, T, A> {}
+impl<'a, T, A: Allocator, K> FusedIterator for Keys<'a, T, A, K> {}
 
 /// A double-ended iterator over the values of a slot map, in the order of the slots.
 ///
 /// Returned by `SlotMap::values`. A contract sees it as the list of the remaining values.
 #[derive(Drop)]
-pub struct Values<'a, T, A: Allocator> {
-    pub(crate) rest: Iter<'a, T, A>,
+pub struct Values<'a, T, A: Allocator, K = ()> {
+    pub(crate) rest: Iter<'a, T, A, K>,
 }
 
-impl<'a, T, A: Allocator> Model for Values<'a, T, A> {
+impl<'a, T, A: Allocator, K> Model for Values<'a, T, A, K> {
     ghost use Rattle.std.specs.Prelude.{List, map};
-    ghost use Rattle.aa_slots.specs.declared.map.Key.{Key};
+    ghost use Rattle.aa_slots.specs.declared.key.KeyData.{KeyData};
 
     ghost Value = { List T };
 
-    ghost view = { λ it. map (λ (e : Key × T). e.1) it.rest };
+    ghost view = { λ it. map (λ (e : KeyData × T). e.1) it.rest };
 }
 
-impl<'a, T, A: Allocator> Iterator for Values<'a, T, A> {
+impl<'a, T, A: Allocator, K> Iterator for Values<'a, T, A, K> {
     type Item = &'a T;
 
     ghost next_gives = { YieldsFirstBy (λ value. value.now) (λ rest. rest) };
@@ -242,7 +245,7 @@ impl<'a, T, A: Allocator> Iterator for Values<'a, T, A> {
     }
 }
 
-impl<'a, T, A: Allocator> DoubleEndedIterator for Values<'a, T, A> {
+impl<'a, T, A: Allocator, K> DoubleEndedIterator for Values<'a, T, A, K> {
     ghost next_back_gives = { YieldsLastBy (λ value. value.now) (λ rest. rest) };
 
     /// Returns the last of the remaining values, or `None` if none remains.
@@ -254,23 +257,23 @@ impl<'a, T, A: Allocator> DoubleEndedIterator for Values<'a, T, A> {
     }
 }
 
-impl<'a, T, A: Allocator> ExactSizeIterator for Values<'a, T, A> {
+impl<'a, T, A: Allocator, K> ExactSizeIterator for Values<'a, T, A, K> {
     fn len(&self) -> usize {
         self.rest.len()
     }
 }
 
-impl<'a, T, A: Allocator> FusedIterator for Values<'a, T, A> {}
+impl<'a, T, A: Allocator, K> FusedIterator for Values<'a, T, A, K> {}
 
-impl<'a, T, A: Allocator> IntoIterator for &'a SlotMap<T, A> {
-    type Item = (Key, &'a T);
+impl<'a, T, A: Allocator, K> IntoIterator for &'a SlotMap<T, A, K> {
+    type Item = (Key<K>, &'a T);
 
-    type IntoIter = Iter<'a, T, A>;
+    type IntoIter = Iter<'a, T, A, K>;
 
     ghost into_iter_gives = { λ m i. (i ≡ entries m.now) × (length i ≡ count m.now.slots)
         × YieldsPairsInOrder T × YieldsPairsInReverse T };
 
-    fn into_iter(self) -> Iter<'a, T, A> {
+    fn into_iter(self) -> Iter<'a, T, A, K> {
         self.iter()
     }
 }

@@ -11,7 +11,7 @@ use crate::map::Key;
 use crate::slots::{Slot, first_held, last_held};
 use allocator_api2::raw_vec::EntriesMut;
 use std::iter::FusedIterator;
-use std::marker::Model;
+use std::marker::{Model, PhantomData};
 
 /// A double-ended iterator over the keys of a slot map and mutable references to their values, in
 /// the order of the slots.
@@ -19,16 +19,17 @@ use std::marker::Model;
 /// Returned by `SlotMap::iter_mut`. A contract sees it as the list of the remaining pairs, and the
 /// name of its borrow of the map.
 #[derive(Drop)]
-pub struct IterMut<'a, T> {
+pub struct IterMut<'a, T, K = ()> {
     slots: &'a [Slot],
     values: EntriesMut<'a, (), T>,
     // where the remaining slots begin and end, and how many of them have a value
     at: usize,
     end: usize,
     left: usize,
+    kind: PhantomData<K>,
 }
 
-impl<'a, T> Model for IterMut<'a, T> {
+impl<'a, T, K> Model for IterMut<'a, T, K> {
     ghost use Rattle.aa_raw.specs.EntriesMut.{borrow_name, places_left};
     ghost use Rattle.aa_slots.specs.Inside.{rest_of, seen, IsRest};
     ghost use Rattle.aa_slots.specs.IterMut.{Lent};
@@ -44,7 +45,7 @@ impl<'a, T> Model for IterMut<'a, T> {
         it.slots.now (places_left it.values) it.at it.end it.left };
 }
 
-impl<'a, T> IterMut<'a, T> {
+impl<'a, T, K> IterMut<'a, T, K> {
     /// Returns an iterator over all values of these slots, of which there are `left`.
     #[tactic(auto, using(crate::proofs::Remaining::all_slots))]
     pub(crate) fn over(slots: &'a [Slot], values: EntriesMut<'a, (), T>, left: usize) -> Self
@@ -60,12 +61,13 @@ impl<'a, T> IterMut<'a, T> {
             at: 0,
             end: slots.len(),
             left,
+            kind: PhantomData,
         }
     }
 }
 
-impl<'a, T> Iterator for IterMut<'a, T> {
-    type Item = (Key, &'a mut T);
+impl<'a, T, K> Iterator for IterMut<'a, T, K> {
+    type Item = (Key<K>, &'a mut T);
 
     ghost next_gives = { YieldsFirstBy (λ item. (item.0, item.1.now)) (λ it. it.entries) };
 
@@ -73,11 +75,11 @@ impl<'a, T> Iterator for IterMut<'a, T> {
 
     /// Returns the next key with a mutable reference to its value, or `None` if none remains.
     #[tactic(auto, using(crate::proofs::Remaining::from_first))]
-    fn next(&mut self) -> Option<(Key, &'a mut T)> {
+    fn next(&mut self) -> Option<(Key<K>, &'a mut T)> {
         let key = first_held(self.slots, self.at, self.end)?;
         self.at = key.index + 1;
         self.left -= 1;
-        Some((key, self.values.take(key.index).1))
+        Some((Key::from(key), self.values.take(key.index).1))
     }
 
     /// Returns the exact number of the remaining pairs.
@@ -90,38 +92,38 @@ impl<'a, T> Iterator for IterMut<'a, T> {
     }
 }
 
-impl<'a, T> DoubleEndedIterator for IterMut<'a, T> {
+impl<'a, T, K> DoubleEndedIterator for IterMut<'a, T, K> {
     ghost next_back_gives = { YieldsLastBy (λ item. (item.0, item.1.now)) (λ it. it.entries) };
 
     /// Returns the last of the remaining keys with a mutable reference to its value, or `None` if
     /// none remains.
     #[tactic(auto, using(crate::proofs::Remaining::from_last))]
-    fn next_back(&mut self) -> Option<(Key, &'a mut T)> {
+    fn next_back(&mut self) -> Option<(Key<K>, &'a mut T)> {
         let key = last_held(self.slots, self.at, self.end)?;
         self.end = key.index;
         self.left -= 1;
-        Some((key, self.values.take(key.index).1))
+        Some((Key::from(key), self.values.take(key.index).1))
     }
 }
 
-impl<'a, T> ExactSizeIterator for IterMut<'a, T> {
+impl<'a, T, K> ExactSizeIterator for IterMut<'a, T, K> {
     fn len(&self) -> usize {
         self.left
     }
 }
 
-impl<'a, T> FusedIterator for IterMut<'a, T> {}
+impl<'a, T, K> FusedIterator for IterMut<'a, T, K> {}
 
 /// A double-ended iterator over mutable references to the values of a slot map, in the order of the
 /// slots.
 ///
 /// Returned by `SlotMap::values_mut`. A contract sees it as an `IterMut`.
 #[derive(Drop)]
-pub struct ValuesMut<'a, T> {
-    pub(crate) rest: IterMut<'a, T>,
+pub struct ValuesMut<'a, T, K = ()> {
+    pub(crate) rest: IterMut<'a, T, K>,
 }
 
-impl<'a, T> Model for ValuesMut<'a, T> {
+impl<'a, T, K> Model for ValuesMut<'a, T, K> {
     ghost use Rattle.aa_slots.specs.IterMut.{Lent};
 
     ghost Value = { Lent T };
@@ -129,7 +131,7 @@ impl<'a, T> Model for ValuesMut<'a, T> {
     ghost view = { λ it. it.rest };
 }
 
-impl<'a, T> Iterator for ValuesMut<'a, T> {
+impl<'a, T, K> Iterator for ValuesMut<'a, T, K> {
     type Item = &'a mut T;
 
     ghost next_gives = { YieldsFirstBy (λ value. value.now) values };
@@ -154,7 +156,7 @@ impl<'a, T> Iterator for ValuesMut<'a, T> {
     }
 }
 
-impl<'a, T> DoubleEndedIterator for ValuesMut<'a, T> {
+impl<'a, T, K> DoubleEndedIterator for ValuesMut<'a, T, K> {
     ghost next_back_gives = { YieldsLastBy (λ value. value.now) values };
 
     /// Returns a mutable reference to the last of the remaining values, or `None` if none remains.
@@ -166,10 +168,10 @@ impl<'a, T> DoubleEndedIterator for ValuesMut<'a, T> {
     }
 }
 
-impl<'a, T> ExactSizeIterator for ValuesMut<'a, T> {
+impl<'a, T, K> ExactSizeIterator for ValuesMut<'a, T, K> {
     fn len(&self) -> usize {
         self.rest.len()
     }
 }
 
-impl<'a, T> FusedIterator for ValuesMut<'a, T> {}
+impl<'a, T, K> FusedIterator for ValuesMut<'a, T, K> {}

@@ -8,5 +8,6 @@ pub mod cursor;
 pub mod into_iter;
 pub mod iter;
 pub mod iter_mut;
+pub mod key;
 pub mod map;
 mod slots;

@@ -5,17 +5,17 @@ ghost use Rattle.std.specs.Option.{option_copied_mut};
 ghost use Rattle.allocator_api2.specs.Errors.{IsErrorFor};
 ghost use Rattle.aa_slots.specs.Iterating.{YieldsPairsInOrder, YieldsPairsInReverse};
 ghost use Rattle.aa_slots.specs.Slotted.{cleared, count, entries, entries_from, find, grown, with_room, without, HasRoom, Puts};
-ghost use Rattle.aa_slots.specs.declared.map.Key.{Key};
+ghost use Rattle.aa_slots.specs.declared.key.KeyData.{KeyData};
 
 use crate::blocks::drop_between;
 use crate::iter::{Iter, Keys, Values};
+pub use crate::key::{Key, KeyData};
 use crate::slots::{Chain, Slot, first_held, put, release, serial_at, slots_in};
 use allocator_api2::collections::{Refused, TryReserveError, TryReserveErrorKind};
 use allocator_api2::raw_vec::RawVec;
 use allocator_api2::vec::Vec;
 use std::alloc::{Allocator, Global};
-use std::default::Default;
-use std::marker::Model;
+use std::marker::{Model, PhantomData};
 
 // The number of keys that a map can issue.
 const KEYS: u64 = 1 << 63;
@@ -29,43 +29,25 @@ mod lend;
 mod retain;
 mod traits;
 
-/// A key of one value in the map that issued it.
-///
-/// It consists of the index of its slot, and its serial: the number of keys issued before it. It
-/// does not identify its map: in another map it may find a value. Keys are ordered by these two.
-#[derive(Clone, Copy, PartialEq, Eq, PartialOrd, Ord, Hash, Debug, Drop)]
-pub struct Key {
-    pub(crate) index: usize,
-    pub(crate) serial: u64,
-}
-
-impl Default for Key {
-    /// Returns a key that no map issues.
-    fn default() -> Key {
-        Key {
-            index: usize::MAX,
-            serial: u64::MAX,
-        }
-    }
-}
-
 /// A slot map: it returns a key for each value inserted, which finds the value until it is removed.
 ///
 /// A contract sees a map as its slots, its capacity, and the number of keys issued. A slot is free,
 /// or has a value and the serial of its key.
 ///
-/// Use a key only with the map that returned it. Maps have no key type of their own, and keys do
-/// not identify their map. So a key of another map finds a value if slot and serial are the same.
-pub struct SlotMap<T, A: Allocator = Global> {
+/// `K` is the kind of its keys, any type: a map takes no keys of another kind, so that the keys of
+/// two maps with different kinds can't be confused. Use a key only with the map that returned it:
+/// a key of another map of the same kind finds a value if slot and serial are the same.
+pub struct SlotMap<T, A: Allocator = Global, K = ()> {
     // each value in the place with the index of its slot
     values: RawVec<((), T), A>,
     // `None` until the map first allocates
     slots: Option<Vec<Slot, A>>,
     free: Chain,
     issued: u64,
+    kind: PhantomData<K>,
 }
 
-impl<T, A: Allocator> Model for SlotMap<T, A> {
+impl<T, A: Allocator, K> Model for SlotMap<T, A, K> {
     ghost use Rattle.aa_slots.specs.Slotted.{Slotted};
 
     ghost Value = { Slotted T };
@@ -78,7 +60,7 @@ impl<T, A: Allocator> Model for SlotMap<T, A> {
         (states_of m.slots) m.values.places m.free (capacity_of m.slots) };
 }
 
-impl<T: Drop, A: Allocator> Drop for SlotMap<T, A> {
+impl<T: Drop, A: Allocator, K> Drop for SlotMap<T, A, K> {
     /// Drops all values and frees the blocks.
     fn drop(self) {
         let SlotMap {
@@ -86,6 +68,7 @@ impl<T: Drop, A: Allocator> Drop for SlotMap<T, A> {
             slots,
             free: _,
             issued: _,
+            kind: _,
         } = self;
         let all = slots_in(&slots);
         drop_between(all, &mut values, 0, all.len());
@@ -93,14 +76,27 @@ impl<T: Drop, A: Allocator> Drop for SlotMap<T, A> {
     }
 }
 
-#[tactic(auto, using(crate::proofs::Finds::finds))]
 impl<T, A: Allocator> SlotMap<T, A> {
-    ghost use Rattle.aa_slots.specs.Lends.{lends_value};
-
     /// Returns an empty map that has issued no keys.
     ///
     /// Does not allocate.
     pub fn new_in(alloc: A) -> Self
+        ensures slots { result.slots ≡ [] }
+        ensures capacity { result.capacity ≡ 0 }
+        ensures issued { result.issued ≡ 0 }
+    {
+        SlotMap::with_key_in(alloc)
+    }
+}
+
+#[tactic(auto, using(crate::proofs::Finds::finds))]
+impl<T, A: Allocator, K> SlotMap<T, A, K> {
+    ghost use Rattle.aa_slots.specs.Lends.{lends_value};
+
+    /// Returns an empty map whose keys are of the kind `K`, and that has issued none.
+    ///
+    /// Does not allocate.
+    pub fn with_key_in(alloc: A) -> Self
         ensures slots { result.slots ≡ [] }
         ensures capacity { result.capacity ≡ 0 }
         ensures issued { result.issued ≡ 0 }
@@ -110,6 +106,7 @@ impl<T, A: Allocator> SlotMap<T, A> {
             slots: None,
             free: Chain { first: 0, count: 0 },
             issued: 0,
+            kind: PhantomData,
         }
     }
 
@@ -129,10 +126,11 @@ impl<T, A: Allocator> SlotMap<T, A> {
     }
 
     /// Returns a reference to the value of `key`, or `None` if it has none.
-    pub fn get(&self, key: Key) -> Option<&T>
+    pub fn get(&self, key: Key<K>) -> Option<&T>
         ensures { option_copied result ≡ find self.now key }
     {
-        if self.contains_key(key) {
+        let key = key.data();
+        if self.holds(key) {
             Some(&self.values.place(key.index).1)
         } else {
             None
@@ -140,7 +138,15 @@ impl<T, A: Allocator> SlotMap<T, A> {
     }
 
     /// Returns `true` if the map has a value for `key`.
-    pub fn contains_key(&self, key: Key) -> bool
+    pub fn contains_key(&self, key: Key<K>) -> bool
+        ensures { result ≡ is_some (find self.now key) }
+    {
+        self.holds(key.data())
+    }
+
+    // Returns `true` if the map has a value for the key with this data.
+    #[inline(always)]
+    fn holds(&self, key: KeyData) -> bool
         ensures { result ≡ is_some (find self.now key) }
     {
         match serial_at(slots_in(&self.slots), key.index) {
@@ -150,11 +156,12 @@ impl<T, A: Allocator> SlotMap<T, A> {
     }
 
     /// Returns a mutable reference to the value of `key`, or `None` if it has none.
-    pub fn get_mut(&mut self, key: Key) -> Option<&mut T>
-        ensures* writes_back { sem 𝓛 (lends_value T.row A.row A.Allocator self.entry key result) }
+    pub fn get_mut(&mut self, key: Key<K>) -> Option<&mut T>
+        ensures* writes_back { sem 𝓛 (lends_value T.row A.row K.row A.Allocator self.entry key result) }
         ensures value { option_copied_mut result ≡ find self.old key }
     {
-        if self.contains_key(key) {
+        let key = key.data();
+        if self.holds(key) {
             Some(&mut self.values.place_mut(key.index).1)
         } else {
             None
@@ -163,7 +170,7 @@ impl<T, A: Allocator> SlotMap<T, A> {
 
     /// Returns a double-ended iterator over the keys and their values, in the order of the slots.
     #[tactic(auto, using(crate::proofs::Iterating::walked))]
-    pub fn iter(&self) -> Iter<'_, T, A>
+    pub fn iter(&self) -> Iter<'_, T, A, K>
         ensures all { result ≡ entries self.now }
         ensures count { length result ≡ count self.now.slots }
         ensures in_order { YieldsPairsInOrder T }
@@ -173,14 +180,14 @@ impl<T, A: Allocator> SlotMap<T, A> {
     }
 
     /// Returns a double-ended iterator over the keys that have a value, in the order of the slots.
-    pub fn keys(&self) -> Keys<'_, T, A>
+    pub fn keys(&self) -> Keys<'_, T, A, K>
         ensures all { result ≡ map (λ e. e.0) (entries self.now) }
     {
         Keys { rest: self.iter() }
     }
 
     /// Returns a double-ended iterator over the values, in the order of the slots.
-    pub fn values(&self) -> Values<'_, T, A>
+    pub fn values(&self) -> Values<'_, T, A, K>
         ensures all { result ≡ map (λ e. e.1) (entries self.now) }
     {
         Values { rest: self.iter() }
@@ -188,7 +195,7 @@ impl<T, A: Allocator> SlotMap<T, A> {
 
     // Returns the key of the first value in the slots from `from` on, or `None` if there is none.
     #[tactic(auto, using(crate::proofs::Passing::firsts))]
-    pub(crate) fn key_from(&self, from: usize) -> Option<Key>
+    pub(crate) fn key_from(&self, from: usize) -> Option<KeyData>
         ensures within { IfSome result (λ k. k.index + 1 < 2 ^ 64) }
         ensures first { result ≡ option_map (λ e. e.0)
             (slice_get (entries_from from (drop from self.now.slots)) 0) }
@@ -199,7 +206,7 @@ impl<T, A: Allocator> SlotMap<T, A> {
 }
 
 #[tactic(auto, using(crate::proofs::Finds::finds))]
-impl<T: Drop, A: Allocator + Clone> SlotMap<T, A> {
+impl<T: Drop, A: Allocator + Clone, K> SlotMap<T, A, K> {
     // Reserves capacity for one more value. If the map is full, doubles the capacity, or adds four
     // if that is more.
     #[inline]
@@ -252,7 +259,7 @@ impl<T: Drop, A: Allocator + Clone> SlotMap<T, A> {
     /// with the requested capacity if an allocation or a clone of the allocator fails.
     /// The map is unchanged, and `value` is returned in the error.
     #[inline]
-    pub fn insert(&mut self, value: T) -> Result<Key, Refused<T>>
+    pub fn insert(&mut self, value: T) -> Result<Key<K>, Refused<T>>
         // If the map is not full, and keys remain to be issued, it succeeds.
         ensures fits { HasRoom self.old 1 → self.old.issued < 2 ^ 63 → IsOk result }
 
@@ -262,7 +269,7 @@ impl<T: Drop, A: Allocator + Clone> SlotMap<T, A> {
         ensures issued { OnOk result (self.new.issued ≡ self.old.issued + 1) }
         ensures found { IfOk result (λ k. find self.new k ≡ Some value) }
         ensures others { IfOk result
-            (λ k. (j : Key) → j ≢ k → find self.new j ≡ find self.old j) }
+            (λ k. (j : KeyData) → j ≢ k → find self.new j ≡ find self.old j) }
 
         // There is one value more, and the capacity grows only if the map was full.
         ensures count { OnOk result (count self.new.slots ≡ count self.old.slots + 1) }
@@ -293,17 +300,17 @@ impl<T: Drop, A: Allocator + Clone> SlotMap<T, A> {
             None => unreachable!(),
         };
         self.issued = serial + 1;
-        Ok(Key { index, serial })
+        Ok(Key::from(KeyData { index, serial }))
     }
 }
 
 #[tactic(auto, using(crate::proofs::Finds::finds))]
-impl<T: Drop, A: Allocator> SlotMap<T, A> {
+impl<T: Drop, A: Allocator, K> SlotMap<T, A, K> {
     /// Removes the value of `key` and returns it, or `None` if the key has none.
     ///
     /// Afterwards the key has no value. Does not allocate.
     #[inline]
-    pub fn remove(&mut self, key: Key) -> Option<T>
+    pub fn remove(&mut self, key: Key<K>) -> Option<T>
         // It returns the value of the key. If there was none, nothing changes.
         ensures value { result ≡ find self.old key }
         ensures removed { IfSome result (λ _. self.new ≡ without self.old key) }
@@ -311,10 +318,11 @@ impl<T: Drop, A: Allocator> SlotMap<T, A> {
 
         // The key then has no value; the other keys find what they found.
         ensures absent { find self.new key ≡ None }
-        ensures others { (j : Key) → j ≢ key → find self.new j ≡ find self.old j }
+        ensures others { (j : KeyData) → j ≢ key → find self.new j ≡ find self.old j }
         ensures count { IfSome result (λ _. count self.new.slots + 1 ≡ count self.old.slots) }
     {
-        if !self.contains_key(key) {
+        let key = key.data();
+        if !self.holds(key) {
             return None;
         }
         let removed = match &mut self.slots {
@@ -329,7 +337,7 @@ impl<T: Drop, A: Allocator> SlotMap<T, A> {
     /// Afterwards no key that was issued has a value. The capacity does not change.
     pub fn clear(&mut self)
         ensures removed { self.new ≡ cleared self.old }
-        ensures absent { (k : Key) → find self.new k ≡ None }
+        ensures absent { (k : KeyData) → find self.new k ≡ None }
     {
         let all = slots_in(&self.slots);
         drop_between(all, &mut self.values, 0, all.len());

@@ -7,7 +7,7 @@ ghost use Rattle.aa_slots.specs.Inside.{number_in, seen, serial_in, state_at, st
 ghost use Rattle.aa_slots.specs.Slotted.{count, slot_at, Puts};
 ghost use Rattle.aa_slots.specs.declared.slots.State.TheVariants.{Free, Held};
 
-use crate::map::Key;
+use crate::key::KeyData;
 use allocator_api2::raw_vec::RawVec;
 use allocator_api2::vec::Vec;
 use std::alloc::{AllocError, Allocator};
@@ -124,7 +124,7 @@ pub fn serial_at(slots: &[Slot], index: usize) -> Option<u64>
 /// Returns the key of the first value in the slots from `from` on and before `end`, if there is
 /// one.
 #[inline]
-pub fn first_held(slots: &[Slot], from: usize, end: usize) -> Option<Key>
+pub fn first_held(slots: &[Slot], from: usize, end: usize) -> Option<KeyData>
     requires { end ≤ length slots.now }
     ensures within { IfSome result (λ k. (from ≤ k.index) × (k.index < end)) }
     ensures held { IfSome result (λ k. state_at slots.now k.index ≡ Held k.serial) }
@@ -133,7 +133,7 @@ pub fn first_held(slots: &[Slot], from: usize, end: usize) -> Option<Key>
 {
     'each: for index in from..end {
         if let State::Held(serial) = slots[index].state() {
-            return Some(Key { index, serial });
+            return Some(KeyData { index, serial });
         }
     }
     None
@@ -141,7 +141,7 @@ pub fn first_held(slots: &[Slot], from: usize, end: usize) -> Option<Key>
 
 /// Returns the key of the last value in the slots from `from` on and before `end`, if there is
 /// one.
-pub fn last_held(slots: &[Slot], from: usize, end: usize) -> Option<Key>
+pub fn last_held(slots: &[Slot], from: usize, end: usize) -> Option<KeyData>
     requires { end ≤ length slots.now }
     ensures within { IfSome result (λ k. (from ≤ k.index) × (k.index < end)) }
     ensures held { IfSome result (λ k. state_at slots.now k.index ≡ Held k.serial) }
@@ -152,7 +152,7 @@ pub fn last_held(slots: &[Slot], from: usize, end: usize) -> Option<Key>
     'each: while from < past {
         past -= 1;
         if let State::Held(serial) = slots[past].state() {
-            return Some(Key {
+            return Some(KeyData {
                 index: past,
                 serial,
             });

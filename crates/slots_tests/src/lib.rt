@@ -2,6 +2,7 @@
 #![tactic(auto)]
 
 #[cfg(test)]
+mod kinds;
 mod memory;
 #[cfg(test)]
 mod slots;

@@ -23,7 +23,27 @@ impl<T: Drop, A: Allocator + Clone> SlotMap<T, A> {
         ensures fits { capacity ≡ 0 → IsOk result }
         ensures error { IfErr result (λ e. IsErrorFor e capacity) }
     {
-        let mut map = SlotMap::new_in(alloc);
+        SlotMap::with_capacity_and_key_in(capacity, alloc)
+    }
+}
+
+impl<T: Drop, A: Allocator + Clone, K> SlotMap<T, A, K> {
+    /// Returns an empty map whose keys are of the kind `K`, with capacity for exactly `capacity`
+    /// values. It has issued no keys.
+    ///
+    /// Allocates if `capacity` is above 0.
+    ///
+    /// # Errors
+    /// `CapacityOverflow`, or `AllocError` with the number `capacity`, also if a clone of the
+    /// allocator fails.
+    pub fn with_capacity_and_key_in(capacity: usize, alloc: A) -> Result<Self, TryReserveError>
+        ensures slots { IfOk result (λ m. m.slots ≡ []) }
+        ensures issued { IfOk result (λ m. m.issued ≡ 0) }
+        ensures capacity { IfOk result (λ m. m.capacity ≡ capacity) }
+        ensures fits { capacity ≡ 0 → IsOk result }
+        ensures error { IfErr result (λ e. IsErrorFor e capacity) }
+    {
+        let mut map = SlotMap::with_key_in(alloc);
         map.reserve(capacity)?;
         Ok(map)
     }
@@ -54,7 +74,7 @@ impl<T: Drop, A: Allocator + Clone> SlotMap<T, A> {
     }
 }
 
-impl<T, A: Allocator> SlotMap<T, A> {
+impl<T, A: Allocator, K> SlotMap<T, A, K> {
     /// Returns the number of values that the map can hold without another allocation.
     pub fn capacity(&self) -> usize
         ensures { result ≡ self.now.capacity }

@@ -9,8 +9,9 @@ use crate::map::SlotMap;
 use crate::slots::slots_in;
 use allocator_api2::collections::TryReserveError;
 use std::alloc::{AllocError, Allocator};
+use std::marker::PhantomData;
 
-impl<T: Clone + Drop, A: Allocator + Clone> SlotMap<T, A> {
+impl<T: Clone + Drop, A: Allocator + Clone, K> SlotMap<T, A, K> {
     /// Returns a map with a clone of each value for the same key, over a clone of the allocator.
     ///
     /// It has capacity for exactly the slots of this one, free ones included, and issues the keys
@@ -37,11 +38,12 @@ impl<T: Clone + Drop, A: Allocator + Clone> SlotMap<T, A> {
             slots,
             free: self.free,
             issued: self.issued,
+            kind: PhantomData,
         })
     }
 }
 
-impl<T: Clone + Drop, A: Allocator + Clone> Clone for SlotMap<T, A> {
+impl<T: Clone + Drop, A: Allocator + Clone, K> Clone for SlotMap<T, A, K> {
     ghost is_clone = { IsClonedMap T.is_clone };
 
     ghost is_infallible = { λ m. ((a : A) → A.is_infallible a) × (m.slots ≡ []) };

@@ -9,14 +9,14 @@ use crate::map::{Key, SlotMap};
 use std::alloc::Allocator;
 
 // Returns `true` if both the keys and the values are equal.
-fn same_pair<T: PartialEq>(left: (Key, &T), right: (Key, &T)) -> bool
+fn same_pair<T: PartialEq, K>(left: (Key<K>, &T), right: (Key<K>, &T)) -> bool
     ensures { result ≡ same_entry T.eq (pair_of left.entry) (pair_of right.entry) }
 {
-    let (key, other) = (left.0, right.0);
+    let (key, other) = (left.0.data(), right.0.data());
     key.index == other.index && key.serial == other.serial && *left.1 == *right.1
 }
 
-impl<T: PartialEq + Drop, A: Allocator> PartialEq for SlotMap<T, A> {
+impl<T: PartialEq + Drop, A: Allocator, K> PartialEq for SlotMap<T, A, K> {
     ghost eq = { same_entries T.eq };
 
     ghost laws = { on_per entries (lists_per (and_per (and_per
@@ -44,7 +44,7 @@ impl<T: PartialEq + Drop, A: Allocator> PartialEq for SlotMap<T, A> {
     }
 }
 
-impl<T: Eq + Drop, A: Allocator> Eq for SlotMap<T, A> {
+impl<T: Eq + Drop, A: Allocator, K> Eq for SlotMap<T, A, K> {
     ghost laws = { on_equiv entries (lists_equiv (and_equiv (and_equiv
         (on_equiv (λ e. e.0.index) nat_eq_equiv) (on_equiv (λ e. e.0.serial) nat_eq_equiv))
         (on_equiv (λ e. e.1) T.Eq.laws))) };

@@ -7,12 +7,12 @@ use crate::map::{Key, SlotMap};
 use std::alloc::Allocator;
 
 #[tactic(auto, using(crate::proofs::Finds::finds))]
-impl<T: Drop, A: Allocator> SlotMap<T, A> {
+impl<T: Drop, A: Allocator, K> SlotMap<T, A, K> {
     /// Returns a double-ended iterator by value over the keys and their values, in the order of the
     /// slots.
     ///
     /// It owns the memory of the map, so this does not allocate.
-    pub fn into_iter(self) -> IntoIter<T, A>
+    pub fn into_iter(self) -> IntoIter<T, A, K>
         ensures all { result ≡ entries self }
         ensures count { length result ≡ count self.slots }
     {
@@ -22,19 +22,20 @@ impl<T: Drop, A: Allocator> SlotMap<T, A> {
             slots,
             free: _,
             issued: _,
+            kind: _,
         } = self;
         IntoIter::over(slots, values, count)
     }
 }
 
-impl<T: Drop, A: Allocator> IntoIterator for SlotMap<T, A> {
-    type Item = (Key, T);
+impl<T: Drop, A: Allocator, K> IntoIterator for SlotMap<T, A, K> {
+    type Item = (Key<K>, T);
 
-    type IntoIter = IntoIter<T, A>;
+    type IntoIter = IntoIter<T, A, K>;
 
     ghost into_iter_gives = { λ m i. (i ≡ entries m) × (length i ≡ count m.slots) };
 
-    fn into_iter(self) -> IntoIter<T, A> {
+    fn into_iter(self) -> IntoIter<T, A, K> {
         SlotMap::into_iter(self)
     }
 }

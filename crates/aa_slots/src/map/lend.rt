@@ -13,13 +13,13 @@ use allocator_api2::raw_vec::EntriesMut;
 use allocator_api2::vec::Vec;
 use std::alloc::Allocator;
 
-impl<T, A: Allocator> SlotMap<T, A> {
+impl<T, A: Allocator, K> SlotMap<T, A, K> {
     ghost use Rattle.aa_slots.specs.IterMutLends.{lends_values};
 
     // Borrows the slots, and the values in their places.
     fn lend(&mut self) -> (&Option<Vec<Slot, A>>, EntriesMut<'_, (), T>)
         ensures* writes_back { sem 𝓛
-            (lends_values T.row A.row A.Allocator self.entry (borrow_name result.1)) }
+            (lends_values T.row A.row K.row A.Allocator self.entry (borrow_name result.1)) }
         ensures slots { seen (states_of result.0.now) (places_left result.1) ≡ self.old.slots }
         ensures held { AreHeld (states_of result.0.now) (places_left result.1) }
     {
@@ -32,9 +32,9 @@ impl<T, A: Allocator> SlotMap<T, A> {
     /// Each key that has a value is returned once, in the order of `iter`. When the borrow ends,
     /// each has the last value written to it. Does not allocate.
     #[tactic(auto, using(crate::proofs::Values::kept_keys))]
-    pub fn iter_mut(&mut self) -> IterMut<'_, T>
+    pub fn iter_mut(&mut self) -> IterMut<'_, T, K>
         ensures* writes_back { sem 𝓛
-            (lends_values T.row A.row A.Allocator self.entry result.borrow) }
+            (lends_values T.row A.row K.row A.Allocator self.entry result.borrow) }
         ensures keys { KeepsKeys self.old.slots }
         ensures entries { result.entries ≡ entries self.old }
         ensures count { length result.entries ≡ count self.old.slots }
@@ -48,9 +48,9 @@ impl<T, A: Allocator> SlotMap<T, A> {
     /// `iter`.
     ///
     /// When the borrow ends, each key has the last value written to it. Does not allocate.
-    pub fn values_mut(&mut self) -> ValuesMut<'_, T>
+    pub fn values_mut(&mut self) -> ValuesMut<'_, T, K>
         ensures* writes_back { sem 𝓛
-            (lends_values T.row A.row A.Allocator self.entry result.borrow) }
+            (lends_values T.row A.row K.row A.Allocator self.entry result.borrow) }
         ensures keys { KeepsKeys self.old.slots }
         ensures values { values result ≡ map (λ e. e.1) (entries self.old) }
         ensures count { length result.entries ≡ count self.old.slots }
@@ -61,15 +61,15 @@ impl<T, A: Allocator> SlotMap<T, A> {
     }
 }
 
-impl<'a, T, A: Allocator> IntoIterator for &'a mut SlotMap<T, A> {
-    type Item = (Key, &'a mut T);
+impl<'a, T, A: Allocator, K> IntoIterator for &'a mut SlotMap<T, A, K> {
+    type Item = (Key<K>, &'a mut T);
 
-    type IntoIter = IterMut<'a, T>;
+    type IntoIter = IterMut<'a, T, K>;
 
     ghost into_iter_gives = { λ m it. (it.entries ≡ entries m.now)
         × (length it.entries ≡ count m.now.slots) };
 
-    fn into_iter(self) -> IterMut<'a, T> {
+    fn into_iter(self) -> IterMut<'a, T, K> {
         self.iter_mut()
     }
 }

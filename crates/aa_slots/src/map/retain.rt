@@ -3,11 +3,11 @@ ghost use Rattle.std.specs.Prelude.{◌≡◌, is_some, length, option_map, true
 ghost use Rattle.aa_slots.specs.Retaining.{Keeps};
 ghost use Rattle.aa_slots.specs.Slotted.{entries, find, slot_at, without};
 
-use crate::map::{Key, SlotMap};
+use crate::map::{Key, KeyData, SlotMap};
 use crate::slots::{serial_at, slots_in};
 use std::alloc::Allocator;
 
-impl<T: Drop, A: Allocator> SlotMap<T, A> {
+impl<T: Drop, A: Allocator, K> SlotMap<T, A, K> {
     // Returns the number of slots.
     pub(super) fn slot_count(&self) -> usize
         ensures { result ≡ length self.now.slots }
@@ -16,20 +16,20 @@ impl<T: Drop, A: Allocator> SlotMap<T, A> {
     }
 
     // Returns the key whose value is in the slot at `index`, or `None` if the slot is free.
-    fn key_at(&self, index: usize) -> Option<Key>
+    fn key_at(&self, index: usize) -> Option<KeyData>
         ensures { result ≡ option_map (λ e. record { index = index; serial = e.0 })
             (slot_at self.now.slots index) }
     {
         let serial = serial_at(slots_in(&self.slots), index)?;
-        Some(Key { index, serial })
+        Some(KeyData { index, serial })
     }
 
     // Removes and drops the value of `key`, which has one.
-    fn discard(&mut self, key: Key)
+    fn discard(&mut self, key: KeyData)
         requires { is_some (find self.old key) ≡ true }
         ensures { self.new ≡ without self.old key }
     {
-        let _removed = self.remove(key);
+        let _removed = self.remove(Key::from(key));
     }
 
     /// Keeps only the values for which `f` returns `true`, and lets `f` change them.
@@ -37,7 +37,7 @@ impl<T: Drop, A: Allocator> SlotMap<T, A> {
     /// `f` is called once for each key with its value, in the order of the slots. The other values
     /// are dropped, and their keys then have none. Does not allocate.
     #[tactic(auto, using(crate::proofs::Retaining::passing))]
-    pub fn retain<F: FnMut(Key, &mut T) -> bool + Drop>(&mut self, mut f: F)
+    pub fn retain<F: FnMut(Key<K>, &mut T) -> bool + Drop>(&mut self, mut f: F)
         requires { F.IsAlwaysCallable f }
         ensures kept { (last : F) × Keeps F.step f (entries self.old) (entries self.new) last }
         ensures slots { length self.new.slots ≡ length self.old.slots }
@@ -48,7 +48,7 @@ impl<T: Drop, A: Allocator> SlotMap<T, A> {
             let Some(key) = self.key_at(index) else {
                 continue;
             };
-            if !f(key, &mut self[key]) {
+            if !f(Key::from(key), &mut self[Key::from(key)]) {
                 self.discard(key);
             }
         }

@@ -3,14 +3,16 @@ ghost use Rattle.std.specs.Prelude.{◌≡◌, [], is_some, true, Some, IfOk, Is
 ghost use Rattle.std.specs.Borrow.{sem};
 ghost use Rattle.aa_slots.specs.Slotted.{find};
 
+use crate::iter::Iter;
 use crate::map::{Key, SlotMap};
+use crate::slots::slots_in;
 use std::alloc::{AllocError, Allocator};
 use std::default::{Emptied, MadeWith};
 use std::fmt;
 use std::fmt::{Debug, Formatter};
 use std::ops::{Index, IndexMut};
 
-impl<T: Drop, A: Allocator> Index<Key> for SlotMap<T, A> {
+impl<T: Drop, A: Allocator, K> Index<Key<K>> for SlotMap<T, A, K> {
     type Output = T;
 
     ghost can_index = { λ m k. is_some (find m k) ≡ true };
@@ -18,7 +20,7 @@ impl<T: Drop, A: Allocator> Index<Key> for SlotMap<T, A> {
     ghost index_gives = { λ m k x. find m k ≡ Some x };
 
     /// Returns a reference to the value of `key`, which has one.
-    fn index(&self, key: Key) -> &T {
+    fn index(&self, key: Key<K>) -> &T {
         match self.get(key) {
             Some(value) => value,
             None => unreachable!(),
@@ -26,13 +28,13 @@ impl<T: Drop, A: Allocator> Index<Key> for SlotMap<T, A> {
     }
 }
 
-impl<T: Drop, A: Allocator> IndexMut<Key> for SlotMap<T, A> {
+impl<T: Drop, A: Allocator, K> IndexMut<Key<K>> for SlotMap<T, A, K> {
     ghost use Rattle.aa_slots.specs.Lends.{lends_there};
 
     /// Returns a mutable reference to the value of `key`, which has one.
-    fn index_mut(&mut self, key: Key) -> &mut T
+    fn index_mut(&mut self, key: Key<K>) -> &mut T
         requires { is_some (find self.old key) ≡ true }
-        ensures* writes_back { sem 𝓛 (lends_there T.row A.row A.Allocator self.entry key result) }
+        ensures* writes_back { sem 𝓛 (lends_there T.row A.row K.row A.Allocator self.entry key result) }
         ensures value { find self.old key ≡ Some result.now }
     {
         match self.get_mut(key) {
@@ -42,16 +44,16 @@ impl<T: Drop, A: Allocator> IndexMut<Key> for SlotMap<T, A> {
     }
 }
 
-impl<T: Drop, A: Allocator> MadeWith<A> for SlotMap<T, A> {
+impl<T: Drop, A: Allocator, K> MadeWith<A> for SlotMap<T, A, K> {
     ghost is_made_with = { λ m. (m.slots ≡ []) × (m.issued ≡ 0) };
 
     /// Returns an empty map as `new_in` does.
     fn made_with(alloc: A) -> Self {
-        SlotMap::new_in(alloc)
+        SlotMap::with_key_in(alloc)
     }
 }
 
-impl<T: Drop, A: Allocator + Clone> Emptied for SlotMap<T, A> {
+impl<T: Drop, A: Allocator + Clone, K> Emptied for SlotMap<T, A, K> {
     ghost is_emptied = { λ m. (m.slots ≡ []) × (m.issued ≡ 0) };
 
     /// Returns an empty map that has issued no keys, over a clone of the allocator of `like`.
@@ -59,13 +61,16 @@ impl<T: Drop, A: Allocator + Clone> Emptied for SlotMap<T, A> {
         ensures made { IfOk result (λ m. (m.slots ≡ []) × (m.issued ≡ 0)) }
         ensures fits { ((a : A) → A.is_infallible a) → IsOk result }
     {
-        Ok(SlotMap::new_in(like.values.allocator().clone()?))
+        Ok(SlotMap::with_key_in(like.values.allocator().clone()?))
     }
 }
 
-impl<T: Debug + Drop, A: Allocator> Debug for SlotMap<T, A> {
+impl<T: Debug + Drop, A: Allocator, K> Debug for SlotMap<T, A, K> {
     /// Formats the keys and values as a map.
+    #[tactic(auto, using(crate::proofs::Iterating::walked))]
     fn fmt<W: fmt::Write>(&self, f: &mut Formatter<W>) -> fmt::Result {
-        f.debug_map().entries(self.iter()).finish()
+        // Keys of all kinds are formatted alike.
+        let pairs: Iter<'_, T, A> = Iter::over(slots_in(&self.slots), &self.values, self.len());
+        f.debug_map().entries(pairs).finish()
     }
 }

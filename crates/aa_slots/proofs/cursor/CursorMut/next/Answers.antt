@@ -1,11 +1,11 @@
-use Rattle.aa_slots.proofs.Common.{inl, sym, ◌+◌, ◌∙◌}
+use Rattle.aa_slots.proofs.Common.{ap, find, inl, sym, ◌+◌, ◌∙◌}
 use Rattle.aa_slots.proofs.Passing.{after-lent, before-lent, finds-first, is-first, is-found, whole-lent}
 use Rattle.aa_slots.specs.Slotted.{with_value}
 use Rattle.aa_slots.proofs.cursor.CursorMut.next.Goals as goal
 
 pub index_mut-requires : goal.index_mut-requires
 index_mut-requires g c =
-    is-found c.args.self.now.map.now.slots c.args.self.now.at c.in-Some.key c.in-Some.ensures.first
+    rw c.from.ensures (is-found c.args.self.now.map.now.slots c.args.self.now.at c.in-Some.key c.in-Some.ensures.first)
 
 pub returns-in-Some : goal.returns-in-Some
 returns-in-Some g c =
@@ -16,14 +16,14 @@ returns-in-Some g c =
         c.index_mut.result.ghost_name,
         λ w. record {
           map =
-              record cursor.map { now = with_value cursor.map.now (same i) w };
+              record cursor.map { now = with_value cursor.map.now ((c.from.ensures ∙ same) i) w };
           at =
               (same i).index + 1;
         },
       ),
       record {
         writes_back = tt;
-        value = sym c.index_mut.ensures.value ∙ finds-first slots cursor.at key found;
+        value = sym c.index_mut.ensures.value ∙ ap (λ k. find cursor.map.now k) c.from.ensures ∙ finds-first slots cursor.at key found;
         before = before-lent slots cursor.at key found;
         remaining = after-lent slots cursor.at key found;
         entries = whole-lent slots cursor.at key found;

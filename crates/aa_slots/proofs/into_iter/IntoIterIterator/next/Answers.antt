@@ -11,7 +11,7 @@ invariant_of-self g c =
 pub returns-clause-steps : goal.returns-clause-steps
 returns-clause-steps g c =
     let key = c.in_ok-key.key in let f = c.in_ok-key.ensures in
-    sym c.self.view_is ∙ take-next c.self.invariant key c.take.result f.within (rw c.slots_in.ensures at f.held) c.take.ensures.value (rw c.slots_in.ensures at f.first) _ (ap (λ (b : Block _ _). b.places) c.take.ensures.after)
+    rw c.from.ensures (sym c.self.view_is ∙ take-next c.self.invariant key c.take.result f.within (rw c.slots_in.ensures at f.held) c.take.ensures.value (rw c.slots_in.ensures at f.first) _ (ap (λ (b : Block _ _). b.places) c.take.ensures.after))
 
 pub returns-clause-goes : goal.returns-clause-goes
 returns-clause-goes g c =

@@ -10,8 +10,8 @@ invariant_of-self g c =
 pub returns-clause-steps : goal.returns-clause-steps
 returns-clause-steps g c =
     let f = c.in_ok-key.ensures in
-    ap (λ u. u.entries) (sym c.self.view_is)
-    ∙ take-next c.self.invariant c.in_ok-key.key (c.take.result.0.now, c.take.result.1.now) f.within f.held c.take.ensures.value f.first _ c.take.ensures.places
+    rw c.from.ensures (ap (λ u. u.entries) (sym c.self.view_is)
+    ∙ take-next c.self.invariant c.in_ok-key.key (c.take.result.0.now, c.take.result.1.now) f.within f.held c.take.ensures.value f.first _ c.take.ensures.places)
 
 pub returns-clause-goes : goal.returns-clause-goes
 returns-clause-goes g c =

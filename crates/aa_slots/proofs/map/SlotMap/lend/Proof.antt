@@ -34,30 +34,30 @@ use Rattle.aa_slots.specs.contracts.map.SlotMap.lend as f
 use Rattle.aa_slots.proofs.map.SlotMap.lend.Code as code
 
 pub lend_spec : {M : Type 1} → Rattle.aa_slots.proofs.map.SlotMap.lend.Statement.statement M
-lend_spec 𝓤 𝓛 𝓜 𝓡 wired Y Z LY LZ g gd dd met md =
-    let key : Args = bounded (a_type ∷ a_type ∷ []) (Y, (Z, tt)) (dcons gd (dcons dd dnil)) in
+lend_spec 𝓤 𝓛 𝓜 𝓡 wired Y Z X LY LZ LX g gd dd met md =
+    let key : Args = bounded (a_type ∷ a_type ∷ a_type ∷ []) (Y, (Z, (X, tt))) (dcons gd (dcons dd dnil)) in
     let e = inst_fn key code.function in
-    let T = f.ended Y Z g gd dd in let R = Mp Y Z g in let B = Bk Y Z g in let I = Ix Y Z g in
+    let T = f.ended Y Z X g gd dd in let R = Mp Y Z X g in let B = Bk Y Z X g in let I = Ix Y Z X g in
     let stayed : Stays T.signature.params T.kept = (stay_dropped (mut_ref_to (0 ∷ []) tt (plain (λ _. R))) no, tt) in
-    let c = f.clauses Y Z g gd dd 𝓛 𝓜.mem 𝓡.returns in let W = walk_of 𝓛 T stayed c in let 𝓣 = tables 𝓤 𝓛.H 𝓜 𝓡 𝓡.env in
-    proved 𝓛 T stayed c 𝓜 𝓡 (Goes-spent_ref 𝓛 3 (0 ∷ []) tt (plain (λ _. R)), tt)
-    (f.Key.name key) e (code.unfolded 𝓤 𝓛.H 𝓜 𝓡 wired (Y, (Z, tt)) gd dd)
+    let c = f.clauses Y Z X g gd dd 𝓛 𝓜.mem 𝓡.returns in let W = walk_of 𝓛 T stayed c in let 𝓣 = tables 𝓤 𝓛.H 𝓜 𝓡 𝓡.env in
+    proved 𝓛 T stayed c 𝓜 𝓡 (Goes-spent_ref 𝓛 4 (0 ∷ []) tt (plain (λ _. R)), tt)
+    (f.Key.name key) e (code.unfolded 𝓤 𝓛.H 𝓜 𝓡 wired (Y, (Z, (X, tt))) gd dd)
     (λ κs. (mut_vals, tt)) (λ κs. (mut_Tells (named 0) κs.0 R, tt)) (λ κs qs bounds a _ are.
     let rb = a.0.ref_ptr.0 in let ro = a.0.ref_ptr.1 in let d = a.0.now in let γ = a.0.ghost_name in let κ = κs.0 in let q = qs.0 in
-    let κY = κs.1.0 in let κZ = κs.1.1.0 in let qY = qs.1.0 in let qZ = qs.1.1.0 in let half_Y = Share.left qY in let rest_Y = Share.right qY in
+    let κY = κs.1.0 in let κZ = κs.1.1.0 in let κX = κs.1.1.1.0 in let qY = qs.1.0 in let qZ = qs.1.1.0 in let qX = qs.1.1.1.0 in let half_Y = Share.left qY in let rest_Y = Share.right qY in
     let vss : Vals T.signature κs = (mut_vals a.0, tt) in let y : W.Ghost = ((κs, qs, bounds, a, vss), tt) in
-    qed 𝓛 (((‵ (flft κ q) ⊛ ‵ (flft κY qY) ⊛ ‵ (flft κZ qZ) ⊛ ‵ ftrue) ⊛ ‵ (owns (types_at T.signature.params κs) a vss))
-    ∷ (raw (fact 𝓤 (κY ⊑ Y.lives)) ⊛ raw (fact 𝓤 (κZ ⊑ Z.lives)) ⊛ raw (emp 𝓤)) ∷ []) ∵
+    qed 𝓛 (((‵ (flft κ q) ⊛ ‵ (flft κY qY) ⊛ ‵ (flft κZ qZ) ⊛ ‵ (flft κX qX) ⊛ ‵ ftrue) ⊛ ‵ (owns (types_at T.signature.params κs) a vss))
+    ∷ (raw (fact 𝓤 (κY ⊑ Y.lives)) ⊛ raw (fact 𝓤 (κZ ⊑ Z.lives)) ⊛ raw (fact 𝓤 (κX ⊑ X.lives)) ⊛ raw (emp 𝓤)) ∷ []) ∵
     move ! (1 ∷ []) $ split ! $ heard ! (κY ⊑ Y.lives) (λ ly. split ! $ heard ! (κZ ⊑ Z.lives) (λ lz. drop ! $
     split ! $ split ! $ move ! (2 ∷ []) $ fsplit ! $ fsplit3 ! $ keep ! (1 ∷ 2 ∷ 4 ∷ 5 ∷ []) $
     enter ! _ _ _ _ _ $ alloc_all ! (λ l. pass_all ! refl ((tt, tt), tt) $
     sets ! (addr ! (through ! refl (fld ! refl (stop !)))) refl (tt, tt) $
-    begins_lent Y Z g LY LZ 𝓛 rb ro ! tt κ q γ d (λ t viewed tie δ n.
-    let p = ro + block_at Y Z g in let pi = ro + index_at Y Z g in let half = Share.right q in
-    let Is₀ = ShrRef (named 0) κ I in let Tok : RattleType = token.the_row (named_lft 3 0 tt κs) unit (V Y Z g) in
+    begins_lent Y Z X g LY LZ LX 𝓛 rb ro ! tt κ q γ d (λ t viewed tie δ n.
+    let p = ro + block_at Y Z X g in let pi = ro + index_at Y Z X g in let half = Share.right q in
+    let Is₀ = ShrRef (named 0) κ I in let Tok : RattleType = token.the_row (named_lft 4 0 tt κs) unit (V Y Z X g) in
     move ! (3 ∷ 2 ∷ []) $ use2 𝓛 (later (‵ (I.shr_at t.slots rb pi κ) ⊛ ‵ (flft κ half)))
-    ((the_index_laws Y Z g LY LZ 𝓛 rb ro).shares 𝓛 t.slots κ ((κ, half) ∷ []) rb pi
-    (option_laws.the_within (vec.the_row slot.the_row (A Y Z g) g) κ (vec_laws.the_within slot.the_row (A Y Z g) g κ (slot_laws.the_within κ) (Incl-trans bounds.1.0 lz))) (Incl-refl κ)) $ await ! tt $ split ! $
+    ((the_index_laws Y Z X g LY LZ LX 𝓛 rb ro).shares 𝓛 t.slots κ ((κ, half) ∷ []) rb pi
+    (option_laws.the_within (vec.the_row slot.the_row (A Y Z X g) g) κ (vec_laws.the_within slot.the_row (A Y Z X g) g κ (slot_laws.the_within κ) (Incl-trans bounds.1.0 lz))) (Incl-refl κ)) $ await ! tt $ split ! $
     hide ! $ feq_i ! (List Val) (vptr rb pi ∷ []) (vptr rb pi ∷ []) refl $ fjoin ! $
     -- [the `&` to the slots; half of the token; the name of the block and its borrow; what closes the loan; what the map follows; the other tokens]
     let G = triple_of 𝓛 (callee.signature unit Y Z g gd dd) (callee.spec unit Y Z g gd dd 𝓛 𝓜.mem 𝓡.returns) in
@@ -65,8 +65,8 @@ lend_spec 𝓤 𝓛 𝓜 𝓡 wired Y Z LY LZ g gd dd met md =
     let z : G.Ghost = (((κ, (κY, (κY, (κZ, tt)))), (half, (half_Y, (rest_Y, (qZ, tt)))), (bounds.0, (bounds.0, (bounds.1.0, tt))), (given, tt), (vptr rb p ∷ [], tt)), tt) in
     -- (the unit type has no lifetime of its own: half of the token of the values' lifetime stands for one)
     move ! (12 ∷ []) $ split ! $ use1 𝓛 (‵ (flft κY half_Y) ⊛ ‵ (flft κY rest_Y)) (𝓛.lfts.lft_split κY qY) $ split ! $ move ! (2 ∷ []) $ split ! $
-    join ! $ move ! (2 ∷ 0 ∷ []) $ join ! $ move ! (1 ∷ 0 ∷ []) $ join ! $ move ! (2 ∷ 0 ∷ []) $ join ! $
-    move ! (2 ∷ 3 ∷ []) $ feq_i ! (List Val) (vptr rb p ∷ []) (vptr rb p ∷ []) refl $ fjoin3 ! $ nothing ! $ move ! (1 ∷ 0 ∷ []) $ join ! $ move ! (1 ∷ 0 ∷ []) $ join ! $
+    nothing ! $ move ! (1 ∷ 0 ∷ []) $ join ! $ move ! (3 ∷ 0 ∷ []) $ join ! $ move ! (2 ∷ 0 ∷ []) $ join ! $ move ! (3 ∷ 0 ∷ []) $ join ! $
+    move ! (3 ∷ 4 ∷ []) $ feq_i ! (List Val) (vptr rb p ∷ []) (vptr rb p ∷ []) refl $ fjoin3 ! $ nothing ! $ move ! (1 ∷ 0 ∷ []) $ join ! $ move ! (1 ∷ 0 ∷ []) $ join ! $
     use0 𝓛 (raw (emp 𝓤)) (id⊢ 𝓤 (emp 𝓤)) $ use0 𝓛 (raw (fact 𝓤 (κZ ⊑ Z.lives))) (fact_i 𝓤 (κZ ⊑ Z.lives) (emp 𝓤) lz) $ join ! $
     use0 𝓛 (raw (fact 𝓤 (κY ⊑ Y.lives))) (fact_i 𝓤 (κY ⊑ Y.lives) (emp 𝓤) ly) $ join ! $ use0 𝓛 (raw (fact 𝓤 (κY ⊑ unit.lives))) (fact_i 𝓤 (κY ⊑ unit.lives) (emp 𝓤) (⊑_static κY)) $ join ! $
     move ! (1 ∷ 0 ∷ []) $ use2 𝓛 (raw (G.pre z)) (id⊢ 𝓤 _) $
@@ -76,18 +76,18 @@ lend_spec 𝓤 𝓛 𝓜 𝓡 wired Y Z LY LZ g gd dd met md =
     await ! tt $ pick ! (λ r. split ! $ split ! $ move ! (2 ∷ []) $ pick ! (λ ws. split ! $ drop ! $ split ! $ move ! (1 ∷ []) $ heard ! (r.places ≡ t.values.places) (λ same.
     -- [what the block follows; the tokens; the entries; the other tokens; the `&` to the slots; what closes the loan; what the map follows]
     move ! (1 ∷ []) $ split ! $
-    move ! (2 ∷ 5 ∷ 6 ∷ 7 ∷ 8 ∷ 9 ∷ 10 ∷ 11 ∷ 0 ∷ []) $
-    ends_lent Y Z g LY LZ 𝓛 rb ro t d viewed κ δ r.tie tie (R.coded.code d) ! tt n q $
+    move ! (2 ∷ 6 ∷ 7 ∷ 8 ∷ 9 ∷ 10 ∷ 11 ∷ 12 ∷ 0 ∷ []) $
+    ends_lent Y Z X g LY LZ LX 𝓛 rb ro t d viewed κ δ r.tie tie (R.coded.code d) ! tt n q $
     -- [the token; the others; the entries; the `&` to the slots; what the map follows]
     move ! (1 ∷ []) $ split ! $ move ! (1 ∷ []) $ split ! $ move ! (1 ∷ []) $ split ! $
-    join ! $ move ! (2 ∷ 1 ∷ []) $ use2 𝓛 (‵ (flft κY qY)) (𝓛.lfts.lft_join κY qY) $ join ! $ move ! (1 ∷ 0 ∷ []) $ join ! $
+    move ! (0 ∷ 6 ∷ []) $ join ! $ move ! (3 ∷ 2 ∷ []) $ use2 𝓛 (‵ (flft κY qY)) (𝓛.lfts.lft_join κY qY) $ join ! $ move ! (2 ∷ 0 ∷ []) $ join ! $ move ! (1 ∷ []) $ drop ! $
     move ! (1 ∷ []) $ fsplit ! $ fpick ! (λ uss. fsplit ! $ feq_l ! (λ one. fsplit ! $ feq_l ! (λ isp. fsplit ! $ fpick ! (λ xs. fsplit ! $ feq_l ! (λ ism. drop ! $ drop ! $
-    in_a_block ! r.ptr (λ p. entries_owned unit (V Y Z g) κ p r.name r.places) (id⊢ 𝓤 (never 𝓤)) (λ bl o lies.
+    in_a_block ! r.ptr (λ p. entries_owned unit (V Y Z X g) κ p r.name r.places) (id⊢ 𝓤 (never 𝓤)) (λ bl o lies.
     let out : Val = vstruct (vcons (vptr bl o) (vcons (vstruct vnil) vnil)) in
     let is_word : v ∷ [] ≡ out ∷ [] = one ∙ ap (λ (ws : List Val). vstruct (of_list (ws ++ (uss.1.0 ++ []))) ∷ []) isp ∙ ap (λ (ws : List Val). vstruct (of_list ((ptr_val r.ptr ∷ []) ++ (ws ++ []))) ∷ []) ism
     ∙ ap (λ (p : Ptr). vstruct (vcons (ptr_val p) (vcons (vstruct vnil) vnil)) ∷ []) lies in
     let r' : Tok.Denot = record { ptr = block_ptr bl o; mark = record {}; name = r.name; tie = tie; places = r.places } in
-    pure_i ! ((Struct (shape (token.the_type (named_lft 3 0 tt κs) unit (V Y Z g)))).own_val (block_ptr bl o, (tt, tt)) (out ∷ [])) (λ vss. (tt, (tt, ((λ uss. (tt, tt)), tt)))) ((vptr bl o ∷ [], (vstruct vnil ∷ [], tt)), (refl, (refl, ((tt, (refl, tt)), tt)))) $ fjoin ! $
+    pure_i ! ((Struct (shape (token.the_type (named_lft 4 0 tt κs) unit (V Y Z X g)))).own_val (block_ptr bl o, (tt, tt)) (out ∷ [])) (λ vss. (tt, (tt, ((λ uss. (tt, tt)), tt)))) ((vptr bl o ∷ [], (vstruct vnil ∷ [], tt)), (refl, (refl, ((tt, (refl, tt)), tt)))) $ fjoin ! $
     let at_slots : Is₀.Denot = record { ref_ptr = (rb, pi); now = t.slots } in let both : Val = vstruct (vcons (vptr rb pi) (vcons out vnil)) in
     let all : seen (states_of t.slots) r.places ≡ d.slots = ap (seen (states_of t.slots)) same ∙ ap (λ (u : R.Denot). u.slots) viewed.0 in
     let held : AreHeld (states_of t.slots) r.places = subst (λ cs. AreHeld (states_of t.slots) cs) (sym same) viewed.1.held in

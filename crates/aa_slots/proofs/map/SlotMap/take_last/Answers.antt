@@ -12,5 +12,5 @@ pub returns-clause-taken : goal.returns-clause-taken
 returns-clause-taken g c =
     let slots = c.args.self.now.slots in let key = c.in_ok-key.key in
     let there = under-some (slot_at slots key.index) key.serial c.take.result c.take.ensures.value in
-    rw c.take.ensures.removed
+    rw (c.take.ensures.removed, c.from.ensures)
     (last-taken slots c.args.at c.args.end.now c.requires key c.take.result there c.in_ok-key.ensures.last)

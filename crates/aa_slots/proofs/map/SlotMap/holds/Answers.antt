@@ -1,7 +1,7 @@
 use Rattle.aa_slots.proofs.Common.{Slotted, ap, find, is_some, sym, value_under, ◌∙◌}
 use Rattle.aa_slots.proofs.Seen.{found-serial, none-serial}
 use Rattle.aa_slots.specs.Inside.{serial_in, state_at}
-use Rattle.aa_slots.proofs.map.SlotMap.contains_key.Goals as goal
+use Rattle.aa_slots.proofs.map.SlotMap.holds.Goals as goal
 
 pub returns-in-Some : goal.returns-in-Some
 returns-in-Some g c =
