@@ -6,5 +6,5 @@ pub use Rattle.aa_slots.specs.declared.key.KeyData.{KeyData}
 pub use Rattle.aa_slots.specs.declared.slots.Chain.{Chain}
 pub use Rattle.aa_slots.specs.declared.slots.State.{State}
 pub use Rattle.aa_slots.specs.declared.slots.State.TheVariants.{Free, Held}
-pub use Rattle.aa_slots.specs.Inside.{held, is_held, rest_of, seen, serial_in, state_at, AreClones, AreFree, AreHeld, IsChain, IsRest, IsSound}
+pub use Rattle.aa_slots.specs.Inside.{held, is_held, is_held_by, rest_of, seen, serial_in, state_at, AreClones, AreFree, AreHeld, IsChain, IsRest, IsSound}
 pub use Rattle.aa_slots.specs.Slotted.{Slotted, Puts, count, entries_from, find, slot_at, value_under, with_at, with_value}

@@ -1,5 +1,5 @@
 -- The view of slots and their places.
-use Rattle.aa_slots.proofs.Common.{AreHeld, Free, Held, List, None, Option, Some, State, [], ap, arith, cond, count, count_by, ext_get_or, false, get_or, held, is_held, is_some, length, refl, seen, serial_in, slice_set, slot_at, state_at, suc, sym, true, value_under, zero, ℕ, ⊤, ◌++◌, ◌<◌, ◌∙◌, ◌∷◌, ◌≡◌}
+use Rattle.aa_slots.proofs.Common.{AreHeld, Free, Held, List, None, Option, Some, State, [], ap, arith, cond, count, count_by, ext_get_or, false, get_or, held, is_held, is_held_by, is_some, length, refl, seen, serial_in, slice_set, slot_at, state_at, suc, sym, true, value_under, zero, ℕ, ⊤, ◌++◌, ◌<◌, ◌∙◌, ◌∷◌, ◌≡◌}
 use Rattle.aa_slots.proofs.Finds.{count-cons}
 use Rattle.std.proofs.lemmas.Bool.Decides.{nat_tests}
 use Rattle.std.specs.Prelude.{nat_eq}
@@ -179,6 +179,16 @@ module _ {T : Type 0} where
       → nat_eq own serial ≡ is_some (value_under serial (slot_at (seen ss cs) i))
   found-serial ss cs h i own serial e = rw (slot-seen ss cs i)
       (held-serial (state_at ss i) (get_or cs i None) own serial (h i) e)
+
+  by-state : (s : State) (c : Option (⊤ × T)) (serial : ℕ) → (is_held s ≡ true → is_some c ≡ true)
+      → is_held_by serial s ≡ is_some (value_under serial (held s c))
+  by-state (Free next) c serial h = refl
+  by-state (Held own) c serial h = held-serial (Held own) c own serial h refl
+
+  pub found-by : (ss : List State) (cs : List (Option (⊤ × T))) → AreHeld ss cs → (i serial : ℕ)
+      → is_held_by serial (state_at ss i) ≡ is_some (value_under serial (slot_at (seen ss cs) i))
+  found-by ss cs h i serial = rw (slot-seen ss cs i)
+      (by-state (state_at ss i) (get_or cs i None) serial (h i))
 
   free-serial : (s : State) (c : Option (⊤ × T)) → None ≡ serial_in s → held s c ≡ None
   free-serial (Free next) c e = refl

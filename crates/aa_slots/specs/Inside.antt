@@ -23,6 +23,11 @@ abbrev pub serial_in : State → Option ℕ
 serial_in (Free next) = None
 serial_in (Held serial) = Some serial
 
+-- the slot has the value of the key with this serial
+abbrev pub is_held_by : (serial : ℕ) → State → Bool
+is_held_by serial (Free next) = false
+is_held_by serial (Held own) = nat_eq own serial
+
 -- the slot has a value
 abbrev pub is_held : State → Bool
 is_held (Free next) = false
@@ -59,6 +64,10 @@ pub record IsChain (ss : List State) (first n : ℕ) : Type 0 where
   pub count : length slots ≡ n
   pub distinct : IsDistinct nat_eq slots
   pub linked : AreLinked ss first slots
+
+-- the index of the slot into which the next value is written
+abbrev pub next_index : List State → Chain → ℕ
+next_index ss free = if nat_eq free.count 0 then length ss else free.first
 
 module _ {T : Type 0} where
   -- the view of a slot with this state and place

@@ -10,7 +10,7 @@ ghost use Rattle.aa_slots.specs.declared.key.KeyData.{KeyData};
 use crate::blocks::drop_between;
 use crate::iter::{Iter, Keys, Values};
 pub use crate::key::{Key, KeyData};
-use crate::slots::{Chain, Slot, first_held, put, release, serial_at, slots_in};
+use crate::slots::{Chain, Slot, first_held, is_held_at, put, release, slots_in};
 use allocator_api2::collections::{Refused, TryReserveError, TryReserveErrorKind};
 use allocator_api2::raw_vec::RawVec;
 use allocator_api2::vec::Vec;
@@ -24,6 +24,7 @@ mod capacity;
 mod clone;
 mod compare;
 pub mod drain;
+mod insert;
 mod into;
 mod lend;
 mod retain;
@@ -149,10 +150,7 @@ impl<T, A: Allocator, K> SlotMap<T, A, K> {
     fn holds(&self, key: KeyData) -> bool
         ensures { result ≡ is_some (find self.now key) }
     {
-        match serial_at(slots_in(&self.slots), key.index) {
-            Some(serial) => serial == key.serial,
-            None => false,
-        }
+        is_held_at(slots_in(&self.slots), key.index, key.serial)
     }
 
     /// Returns a mutable reference to the value of `key`, or `None` if it has none.

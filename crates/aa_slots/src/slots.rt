@@ -3,7 +3,7 @@
 //! A slot is one word. The values are in a second block, each in the place with the index of its
 //! slot.
 ghost use Rattle.std.specs.Prelude.{◌≡◌, ◌+◌, ◌^◌, ◌<◌, ◌≤◌, IfNone, IfSome, length, is_some, None, Some, true, option_map, slice_set};
-ghost use Rattle.aa_slots.specs.Inside.{number_in, seen, serial_in, state_at, states_of, AreFree, IsSound};
+ghost use Rattle.aa_slots.specs.Inside.{is_held_by, next_index, number_in, seen, serial_in, state_at, states_of, AreFree, IsSound};
 ghost use Rattle.aa_slots.specs.Slotted.{count, slot_at, Puts};
 ghost use Rattle.aa_slots.specs.declared.slots.State.TheVariants.{Free, Held};
 
@@ -121,6 +121,20 @@ pub fn serial_at(slots: &[Slot], index: usize) -> Option<u64>
     }
 }
 
+/// Returns `true` if the slot at `index` has the value of the key with this serial.
+#[inline(always)]
+pub fn is_held_at(slots: &[Slot], index: usize, serial: u64) -> bool
+    ensures { result ≡ is_held_by serial (state_at slots.now index) }
+{
+    match slots.get(index) {
+        Some(slot) => match slot.state() {
+            State::Held(own) => own == serial,
+            State::Free(_) => false,
+        },
+        None => false,
+    }
+}
+
 /// Returns the key of the first value in the slots from `from` on and before `end`, if there is
 /// one.
 #[inline]
@@ -174,6 +188,7 @@ fn put_first<T, A: Allocator>(
     requires some { 0 < free.old.count }
     requires serial { serial < 2 ^ 63 }
     ensures sound { IsSound slots.new.items values.new.places free.new slots.new.capacity }
+    ensures index { result ≡ free.old.first }
     ensures put { Puts (seen slots.old.items values.old.places)
         (record { index = result; serial = serial }) value
         (seen slots.new.items values.new.places) }
@@ -204,6 +219,7 @@ fn push_new<T, A: Allocator>(
     requires room { length slots.old.items < slots.old.capacity }
     requires serial { serial < 2 ^ 63 }
     ensures sound { IsSound slots.new.items values.new.places free.now slots.new.capacity }
+    ensures index { result ≡ length slots.old.items }
     ensures put { Puts (seen slots.old.items values.old.places)
         (record { index = result; serial = serial }) value
         (seen slots.new.items values.new.places) }
@@ -216,6 +232,18 @@ fn push_new<T, A: Allocator>(
     }
     values.put(at, ((), value));
     at
+}
+
+/// Returns the index of the slot into which `put` writes the next value.
+#[inline(always)]
+pub fn next_index<A: Allocator>(slots: &Vec<Slot, A>, free: &Chain) -> usize
+    ensures { result ≡ next_index slots.now.items free.now }
+{
+    if free.count == 0 {
+        slots.len()
+    } else {
+        free.first
+    }
 }
 
 /// Writes a value into a free slot, or into a new one if no slot is free, and returns its index.
@@ -233,6 +261,7 @@ pub fn put<T, A: Allocator>(
     requires room { count (seen slots.old.items values.old.places) < slots.old.capacity }
     requires serial { serial < 2 ^ 63 }
     ensures sound { IsSound slots.new.items values.new.places free.new slots.new.capacity }
+    ensures index { result ≡ next_index slots.old.items free.old }
     ensures put { Puts (seen slots.old.items values.old.places)
         (record { index = result; serial = serial }) value
         (seen slots.new.items values.new.places) }

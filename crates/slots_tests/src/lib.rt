@@ -2,7 +2,10 @@
 #![tactic(auto)]
 
 #[cfg(test)]
+mod calls;
+#[cfg(test)]
 mod kinds;
+#[cfg(test)]
 mod memory;
 #[cfg(test)]
 mod slots;
