@@ -8,6 +8,7 @@ pub mod Rings
 pub mod Retaining
 pub mod Searching
 pub mod Showing
+pub mod Splitting
 pub mod Swapping
 pub mod Turning
 pub mod Truncating

@@ -73,7 +73,12 @@ impl<T, A: Allocator> Ring<T, A> {
 
 // Returns the items from `start` up to `end` of two slices in line, as two slices.
 #[tactic(auto, using(crate::proofs::Showing::ranged))]
-fn part_of<'a, T>(first: &'a [T], others: &'a [T], start: usize, end: usize) -> (&'a [T], &'a [T])
+pub(crate) fn part_of<'a, T>(
+    first: &'a [T],
+    others: &'a [T],
+    start: usize,
+    end: usize,
+) -> (&'a [T], &'a [T])
     requires { (start ≤ end) × (end ≤ length first.now + length others.now) }
     ensures items { let xs = first.now ++ others.now in
         result.0.now ++ result.1.now ≡ slice_range xs start end }

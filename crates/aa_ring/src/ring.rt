@@ -22,6 +22,7 @@ mod resize;
 mod retain;
 mod search;
 mod shrink;
+mod split;
 mod turns;
 
 /// A double-ended queue over the allocator `A`.

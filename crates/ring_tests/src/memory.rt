@@ -20,8 +20,13 @@ enum Call {
     Reserve(usize),
     Remove(usize),
     SwapRemoveBack(usize),
+    TruncateFront(usize),
+    // What is split off is dropped.
+    SplitOff(usize),
     // With one item taken.
     Drain,
+    // Of the items from this index on, without the last, with one item taken.
+    DrainFrom(usize),
     // Of none.
     Retain,
     ShrinkToFit,
@@ -63,9 +68,19 @@ fn called(call: Call, ring: &mut Small<'_>) {
         }
         Call::Remove(index) => drop(ring.remove(index)),
         Call::SwapRemoveBack(index) => drop(ring.swap_remove_back(index)),
+        Call::TruncateFront(len) => ring.truncate_front(len),
+        Call::SplitOff(at) if at <= ring.len() => drop(ring.split_off(at)),
+        Call::SplitOff(_) => {}
         Call::Drain => {
             let mut items = ring.drain(..);
             drop(items.next());
+        }
+        Call::DrainFrom(start) => {
+            if start < ring.len() {
+                let end = ring.len() - 1;
+                let mut items = ring.drain(start..end);
+                drop(items.next_back());
+            }
         }
         Call::Retain => keep_none(ring),
         Call::ShrinkToFit => {
@@ -125,7 +140,12 @@ fn items_of_a_ring_are_dropped_once(rt: HostRuntime) {
         (Call::Remove(2), 0, 1),
         (Call::Remove(6), 0, 0),
         (Call::SwapRemoveBack(1), 0, 1),
+        (Call::TruncateFront(2), 0, 4),
+        (Call::TruncateFront(4), 0, 2),
+        (Call::SplitOff(2), 1, 4),
+        (Call::SplitOff(6), 0, 0),
         (Call::Drain, 0, 6),
+        (Call::DrainFrom(2), 0, 3),
         (Call::Retain, 0, 6),
         (Call::ShrinkToFit, 1, 0),
         (Call::Drop, 0, 6),

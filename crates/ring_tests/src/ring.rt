@@ -149,6 +149,8 @@ enum Call {
     // Before the second item.
     Insert,
     Resize(usize),
+    // At the first item.
+    SplitOff,
 }
 
 // Does it to a ring, and to another. It returns the length of what it makes or changes.
@@ -170,13 +172,14 @@ fn called<'a>(
         Call::Insert if ring.len() > 0 => ring.insert(1, 4)?,
         Call::Insert => {}
         Call::Resize(len) => ring.resize(len, 4)?,
+        Call::SplitOff => return Ok(ring.split_off(0)?.len()),
     }
     Ok(ring.len())
 }
 
 // The calls, the length of what each makes or leaves of a ring of four items in four places, and
 // the capacity that it requests.
-const CALLS: [(Call, usize, usize); 10] = [
+const CALLS: [(Call, usize, usize); 11] = [
     (Call::WithCapacity(5), 5, 5),
     (Call::PushBack, 5, 8),
     (Call::PushFront, 5, 8),
@@ -187,6 +190,7 @@ const CALLS: [(Call, usize, usize); 10] = [
     (Call::Clone, 4, 4),
     (Call::Insert, 5, 8),
     (Call::Resize(9), 9, 9),
+    (Call::SplitOff, 4, 4),
 ];
 
 #[test]
@@ -360,6 +364,74 @@ fn all_items_are_taken_out(rt: HostRuntime) {
     assert!(rt; (items.next(), items.next_back(), items.len()) == (Some(0), Some(5), 4));
     drop(items);
     assert!(rt; ring.is_empty() && ring.capacity() == 8);
+}
+
+// Takes an item from the front of a range of the ring, and then so many from its back. Returns the
+// first, the last one taken, and how many are left, if the range is within the ring.
+fn takes_out(
+    ring: &mut Small<'_>,
+    range: Range<usize>,
+    from_back: usize,
+) -> Option<(Option<u64>, Option<u64>, usize)> {
+    if range.start > range.end || range.end > ring.len() {
+        return None;
+    }
+    let mut items = ring.drain(range);
+    let first = items.next();
+    let mut last = None;
+    for _taken in 0..from_back {
+        last = items.next_back();
+    }
+    Some((first, last, items.len()))
+}
+
+#[test]
+fn a_part_is_taken_out(rt: HostRuntime) {
+    let heap = Faulty::new(rt.alloc());
+    for (range, from_back, seen, items) in [
+        (2..6, 2, (Some(2), Some(4), 1), [0, 1, 6, 7].as_slice()),
+        (0..5, 4, (Some(0), Some(1), 0), &[5, 6, 7]),
+        (4..8, 1, (Some(4), Some(7), 2), &[0, 1, 2, 3]),
+        (1..7, 6, (Some(1), None, 0), &[0, 7]),
+        (3..3, 1, (None, None, 0), &[0, 1, 2, 3, 4, 5, 6, 7]),
+    ] {
+        let mut ring = turned(&heap, 0..8);
+        let before = heap.requests();
+        assert!(rt;
+            takes_out(&mut ring, range, from_back) == Some(seen),
+            "{from_back}"
+        );
+        assert!(rt; has(&ring, items) && ring.capacity() == 8 && heap.requests() == before);
+    }
+}
+
+// Splits the ring at an index. Returns what is split off and its capacity, if the index is within
+// the ring.
+fn splits<'a>(ring: &mut Small<'a>, at: usize) -> Option<(Small<'a>, usize)> {
+    if at > ring.len() {
+        return None;
+    }
+    let tail = ring.split_off(at).ok()?;
+    let capacity = tail.capacity();
+    Some((tail, capacity))
+}
+
+#[test]
+fn a_ring_is_split_and_cut_in_front(rt: HostRuntime) {
+    let heap = Faulty::new(rt.alloc());
+    let mut ring = turned(&heap, 0..7);
+    if let Some((tail, capacity)) = splits(&mut ring, 4) {
+        assert!(rt; has(&tail, &[4, 5, 6]) && capacity == 3);
+    }
+    assert!(rt; has(&ring, &[0, 1, 2, 3]) && ring.capacity() == 8);
+    ring.truncate_front(5);
+    assert!(rt; ring.len() == 4);
+    ring.truncate_front(1);
+    assert!(rt; has(&ring, &[3]) && ring.capacity() == 8);
+    let before = heap.requests();
+    if let Some((tail, capacity)) = splits(&mut ring, 1) {
+        assert!(rt; tail.is_empty() && capacity == 0 && heap.requests() == before);
+    }
 }
 
 // A ring of what an iterator returns, extended by each kind of item.

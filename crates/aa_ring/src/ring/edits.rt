@@ -213,7 +213,7 @@ impl<T, A: Allocator> Ring<T, A> {
     }
 
     // Replaces the item at `index` by `item`, which counts as written, and returns the old one.
-    fn exchange(&mut self, index: usize, item: T) -> T
+    pub(crate) fn exchange(&mut self, index: usize, item: T) -> T
         requires { index < length self.old.items }
         ensures value { slice_get self.old.items index ≡ Some result }
         ensures replaced { let xs = slice_set self.old.items index item in

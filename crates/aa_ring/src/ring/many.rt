@@ -12,7 +12,6 @@ ghost use Rattle.aa_ring.specs.Ringed.{Ringed, empty, with_written, with_room, H
 
 use crate::ring::Ring;
 use allocator_api2::collections::{TryReserveError, TryReserveErrorKind};
-use allocator_api2::raw_vec::RawVec;
 use std::alloc::{AllocError, Allocator};
 
 impl<T, A: Allocator> Ring<T, A> {
@@ -185,13 +184,7 @@ impl<T: Clone, A: Allocator> Ring<T, A> {
             IfErr result (ClonesFail sure (length self.now.items) (type_size T.row)) }
     {
         let capacity = self.len();
-        let Ok(alloc) = self.block.allocator().clone() else {
-            return Err(TryReserveErrorKind::AllocError { capacity }.into());
-        };
-        let growth = self.block.growth();
-        let mut copy = Ring::from_block(RawVec::with_capacity_and_growth_in(
-            capacity, growth, alloc,
-        )?);
+        let mut copy = self.empty_like(capacity)?;
         if copy.push_clones(self) {
             return Ok(copy);
         }

@@ -1,5 +1,5 @@
-//! A ring cut down or filled up to a length.
-ghost use Rattle.std.specs.Prelude.{◌≡◌, ◌+◌, ◌-◌, ◌<◌, ◌≤◌, ◌++◌, false, length, replicate, take, IfErr, IsOk, IsTrue, OnErr, OnOk};
+//! A ring cut down or filled up to a length, or split in two.
+ghost use Rattle.std.specs.Prelude.{◌≡◌, ◌+◌, ◌-◌, ◌<◌, ◌≤◌, ◌++◌, false, length, replicate, take, drop, IfErr, IfOk, IsOk, IsTrue, OnErr, OnOk};
 ghost use Rattle.std.specs.Mem.{type_size};
 ghost use Rattle.allocator_api2.specs.Clones.{ClonesAreEqual};
 ghost use Rattle.aa_ring.specs.Extending.{AppendFails, AppendsClones, AppendsCopies, AppendsPart, RolledBack};
@@ -93,5 +93,33 @@ impl<T: Clone, A: Allocator> Ring<T, A> {
             }
         }
         true
+    }
+}
+
+impl<T, A: Allocator> Ring<T, A> {
+    /// Keeps the last `len` items, and drops the others in order.
+    ///
+    /// Does nothing if there are no more than `len`. Does not allocate, and does not change the
+    /// capacity.
+    pub fn truncate_front(&mut self, len: usize)
+    where
+        T: Drop,
+        ensures { let xs = self.old.items in
+            self.new ≡ with_written self.old (drop (length xs - len) xs) 0 }
+    {
+        let gone = self.len().saturating_sub(len);
+        self.drop_first(gone);
+    }
+
+    // Drops the first `count` items in order, or all if there are fewer.
+    #[tactic(auto, using(crate::proofs::Splitting::dropped))]
+    pub(crate) fn drop_first(&mut self, count: usize)
+    where
+        T: Drop,
+        ensures { self.new ≡ with_written self.old (drop count self.old.items) 0 }
+    {
+        'each: for _done in 0..count {
+            drop(self.pop_front());
+        }
     }
 }
