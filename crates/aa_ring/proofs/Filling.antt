@@ -1,12 +1,14 @@
 -- Clones of one item that are appended to a ring, and removed again where one fails.
-use Rattle.std.proofs.Common.{◌≡◌, ℕ, ◌+◌, ◌-◌, ◌<◌, List, [], ◌∷◌, ◌++◌, length, take, refl, sym, subst, ap, ◌∙◌, arith, append_assoc, length-append}
+use Rattle.std.proofs.Common.{◌≡◌, ℕ, suc, ◌+◌, ◌-◌, ◌<◌, List, [], ◌∷◌, ◌++◌, length, take, refl, sym, subst, ap, ◌∙◌, arith, append_assoc, length-append}
 use Rattle.std.specs.Prelude.{replicate}
 use Rattle.std.specs.List.{AllZip}
 use Rattle.std.proofs.lemmas.Bool.Decides.{nat_tests}
 use Rattle.std.proofs.lemmas.List.{append-nil, length-replicate, replicate-append-replicate, take_all, take_at}
 use Rattle.std.proofs.lemmas.List.Elements.{AllZip-push, same_from_all_zip}
-use Rattle.aa_ring.specs.Extending.{AppendsClones, AppendsCopies, AppendsPart, RolledBack}
-use Rattle.aa_ring.specs.Ringed.{Ringed, HasRoom, with_written}
+use Rattle.std.proofs.lemmas.Fn.{FoldsTo-push}
+use Rattle.allocator_api2.specs.Copies.{MayCallTimes}
+use Rattle.aa_ring.specs.Extending.{AppendsClones, AppendsCopies, AppendsPart, AppendsResults, RolledBack}
+use Rattle.aa_ring.specs.Ringed.{Ringed, HasRoom, with_room, with_written}
 
 -- one clone more of `x`
 replicate-more : {T : Type 0} (k : ℕ) (x : T) → replicate (k + 1) x ≡ replicate k x ++ x ∷ []
@@ -81,4 +83,51 @@ module _ {T A : Type 0} where
       let front : roomy.items ≡ take n old.items = same ∙ sym (take_all n old.items (omega arith)) in
       p.put ∙ (λ t. with_written roomy (front t ++ all t) k)
 
+module _ {T A F : Type 0} (takes : F → Type 0) (step : F → T → F → Type 0) where
+  -- the closure was called `k` times of `total`, its results were appended, and the others fit
+  pub record PushesResults (total : ℕ) (old : Ringed T A) (f : F) (k : ℕ) (new : Ringed T A) (g : F) : Type 0 where
+    pub appends : AppendsResults step old k f g new
+    pub more : MayCallTimes takes step (total - k) g
+    pub room : HasRoom new (total - k)
+
+  module _ (total : ℕ) (old : Ringed T A) (f : F) where
+    pub results-none : HasRoom old total → MayCallTimes takes step total f → PushesResults total old f 0 old f
+    results-none room may = record {
+      appends = record { results = []; calls = refl; count = refl; put = sym (written-none old) ∙ ap (λ xs. with_written old xs 0) (sym (append-nil old.items)) };
+      more = subst (λ n. MayCallTimes takes step n f) {x = total} {y = total - 0} (omega arith) may;
+      room = omega (arith, room);
+    }
+
+    module _ (k : ℕ) (mid : Ringed T A) (g : F) (few : k < total) (p : PushesResults total old f k mid g) where
+      next : MayCallTimes takes step (suc (total - (k + 1))) g
+      next = subst (λ n. MayCallTimes takes step n g) {x = total - k} {y = suc (total - (k + 1))} (omega (arith, few)) p.more
+
+      pub results-may : takes g
+      results-may = next.0
+
+      pub results-more : (y : T) (h : F) (new : Ringed T A) → step g y h → new ≡ with_written mid (mid.items ++ y ∷ []) 1 → PushesResults total old f (k + 1) new h
+      results-more y h new s e = record {
+        appends = record {
+          results = p.appends.results ++ y ∷ [];
+          calls = FoldsTo-push step f p.appends.results g y h p.appends.calls s;
+          count = length-append p.appends.results (y ∷ []) ∙ ap (λ n. n + 1) p.appends.count;
+          put = e ∙ ap (λ s. with_written s (s.items ++ y ∷ []) 1) p.appends.put ∙ written-twice old (old.items ++ p.appends.results) ((old.items ++ p.appends.results) ++ y ∷ []) k 1
+              ∙ ap (λ zs. with_written old zs (k + 1)) (append_assoc old.items p.appends.results (y ∷ []));
+        };
+        more = next.1 y h s;
+        room = omega (arith, p.room, few, ap (λ s. s.capacity) e, ap (λ s. length s.items) e, length-append mid.items (y ∷ []));
+      }
+
+-- all results were appended
+pub results-all : {T A F : Type 0} (takes : F → Type 0) (step : F → T → F → Type 0) (total : ℕ) (old : Ringed T A) (f : F) (k : ℕ) (new : Ringed T A) (g : F) → k ≡ total → PushesResults takes step total old f k new g → AppendsResults step old total f g new
+results-all takes step total old f k new g e p = subst (λ n. AppendsResults step old n f g new) e p.appends
+
+-- in a ring that reserved capacity for them, from n items to m
+pub results-roomy : {T A F : Type 0} (step : F → T → F → Type 0) (size : ℕ) (old mid new : Ringed T A) (n m : ℕ) (f g : F) → n ≡ length old.items → mid ≡ with_room size old (m - n) → AppendsResults step mid (m - n) f g new
+    → AppendsResults step (with_room size old (m - length old.items)) (m - length old.items) f g new
+results-roomy step size old mid new n m f g count room p =
+    subst (λ k. AppendsResults step (with_room size old (m - k)) (m - k) f g new) count (subst (λ r. AppendsResults step r (m - n) f g new) room p)
+
 pub ruleset filled = (nat_tests, copies-last, undone, copies-same)
+
+pub ruleset resulting = (nat_tests, results-none, results-may, results-more)

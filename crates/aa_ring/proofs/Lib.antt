@@ -4,6 +4,7 @@ pub mod Exchanging
 pub mod Extending
 pub mod Filling
 pub mod Paid
+pub mod Popping
 pub mod Rings
 pub mod Retaining
 pub mod Searching

@@ -1,7 +1,7 @@
 -- A ring after items were appended, one by one, and a ring with clones of another's items.
 use Rattle.std.specs.Prelude.{◌≡◌, ℕ, ◌+◌, ◌-◌, ◌<◌, List, [], ◌∷◌, ◌++◌, length, replicate, Option, ◌⊎◌}
 use Rattle.std.specs.Iterator.{Drains, Yields}
-use Rattle.std.specs.List.{AllZip}
+use Rattle.std.specs.List.{AllZip, FoldsTo}
 use Rattle.allocator_api2.specs.Growth.{new_capacity}
 use Rattle.allocator_api2.specs.declared.collections.TryReserveError.{TryReserveError}
 use Rattle.allocator_api2.specs.declared.collections.TryReserveErrorKind.TheVariants.{AllocError}
@@ -53,6 +53,15 @@ module _ {T A : Type 0} where
     pub added : List T
     pub each : AllZip clones (replicate (k - 1) x) added
     pub put : new ≡ with_written old (old.items ++ (added ++ x ∷ [])) k
+
+  -- `new` is `old` with `k` results of the closure `f` appended, which was called once for each, in
+  -- order, and then is `g`
+  pub record AppendsResults {F : Type 0} (step : F → T → F → Type 0) (old : Ringed T A) (k : ℕ)
+      (f g : F) (new : Ringed T A) : Type 0 where
+    pub results : List T
+    pub calls : FoldsTo step f results g
+    pub count : length results ≡ k
+    pub put : new ≡ with_written old (old.items ++ results) k
 
   -- `new` is `old` after fewer than `k` items were appended and removed again
   pub record RolledBack (old : Ringed T A) (k : ℕ) (new : Ringed T A) : Type 0 where

@@ -4,4 +4,5 @@ pub mod Paid
 pub mod Lends
 pub mod Drain
 pub mod Extending
+pub mod Popping
 pub mod Retaining

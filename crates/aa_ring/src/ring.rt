@@ -18,6 +18,7 @@ mod edits;
 mod format;
 mod made;
 mod many;
+mod pops;
 mod resize;
 mod retain;
 mod search;

@@ -149,8 +149,20 @@ enum Call {
     // Before the second item.
     Insert,
     Resize(usize),
+    // Of the numbers from 4 on.
+    ResizeWith(usize),
     // At the first item.
     SplitOff,
+}
+
+// Cuts the ring to a length, or appends the numbers from 4 on.
+#[tactic(auto, using(allocator_api2::proofs::Callers::callers))]
+fn resizes_with(ring: &mut Small<'_>, len: usize) -> Result<(), TryReserveError> {
+    let mut next = 3u64;
+    ring.resize_with(len, || {
+        next = next.wrapping_add(1);
+        next
+    })
 }
 
 // Does it to a ring, and to another. It returns the length of what it makes or changes.
@@ -172,6 +184,7 @@ fn called<'a>(
         Call::Insert if ring.len() > 0 => ring.insert(1, 4)?,
         Call::Insert => {}
         Call::Resize(len) => ring.resize(len, 4)?,
+        Call::ResizeWith(len) => resizes_with(ring, len)?,
         Call::SplitOff => return Ok(ring.split_off(0)?.len()),
     }
     Ok(ring.len())
@@ -179,7 +192,7 @@ fn called<'a>(
 
 // The calls, the length of what each makes or leaves of a ring of four items in four places, and
 // the capacity that it requests.
-const CALLS: [(Call, usize, usize); 11] = [
+const CALLS: [(Call, usize, usize); 12] = [
     (Call::WithCapacity(5), 5, 5),
     (Call::PushBack, 5, 8),
     (Call::PushFront, 5, 8),
@@ -190,6 +203,7 @@ const CALLS: [(Call, usize, usize); 11] = [
     (Call::Clone, 4, 4),
     (Call::Insert, 5, 8),
     (Call::Resize(9), 9, 9),
+    (Call::ResizeWith(9), 9, 9),
     (Call::SplitOff, 4, 4),
 ];
 
@@ -223,6 +237,8 @@ fn what_fits_does_not_allocate(rt: HostRuntime) {
         (Call::Insert, 13, 0),
         (Call::Resize(15), 15, 0),
         (Call::Resize(2), 2, 0),
+        (Call::ResizeWith(12), 12, 0),
+        (Call::ResizeWith(1), 1, 0),
         (Call::WithCapacity(0), 0, 0),
         (Call::FromIter(4), 0, 0),
     ] {
@@ -316,6 +332,44 @@ fn items_are_inserted_and_removed_anywhere(rt: HostRuntime) {
 #[tactic(auto, using(allocator_api2::proofs::Callers::callers))]
 fn keep_even(ring: &mut Small<'_>) {
     ring.retain(|item| *item % 2 == 0);
+}
+
+// Keeps the items above 2, ten more of each.
+#[tactic(auto, using(allocator_api2::proofs::Callers::callers))]
+fn raise_above_two(ring: &mut Small<'_>) {
+    ring.retain_mut(|item| {
+        let kept = *item > 2;
+        *item = item.wrapping_add(10);
+        kept
+    });
+}
+
+// Adds one to an item at an end, and takes it if it was even.
+fn pops(ring: &mut Small<'_>, at_front: bool) -> Option<u64> {
+    if at_front {
+        ring.pop_front_if(|item| is_even_and_grows(item))
+    } else {
+        ring.pop_back_if(|item| is_even_and_grows(item))
+    }
+}
+
+fn is_even_and_grows(item: &mut u64) -> bool {
+    let even = *item % 2 == 0;
+    *item = item.wrapping_add(1);
+    even
+}
+
+#[test]
+fn items_are_changed_and_removed_by_closures(rt: HostRuntime) {
+    let heap = Faulty::new(rt.alloc());
+    let mut ring = turned(&heap, 0..6);
+    raise_above_two(&mut ring);
+    assert!(rt; has(&ring, &[13, 14, 15]));
+    assert!(rt; (pops(&mut ring, true), pops(&mut ring, true)) == (None, Some(15)));
+    assert!(rt; (pops(&mut ring, false), pops(&mut ring, false)) == (None, Some(17)));
+    assert!(rt; has(&ring, &[14]) && resizes_with(&mut ring, 3).is_ok());
+    assert!(rt; has(&ring, &[14, 4, 5]) && resizes_with(&mut ring, 0).is_ok());
+    assert!(rt; pops(&mut ring, true).is_none() && pops(&mut ring, false).is_none());
 }
 
 #[test]

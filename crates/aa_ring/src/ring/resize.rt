@@ -2,8 +2,9 @@
 ghost use Rattle.std.specs.Prelude.{◌≡◌, ◌+◌, ◌-◌, ◌<◌, ◌≤◌, ◌++◌, false, length, replicate, take, drop, IfErr, IfOk, IsOk, IsTrue, OnErr, OnOk};
 ghost use Rattle.std.specs.Mem.{type_size};
 ghost use Rattle.allocator_api2.specs.Clones.{ClonesAreEqual};
-ghost use Rattle.aa_ring.specs.Extending.{AppendFails, AppendsClones, AppendsCopies, AppendsPart, RolledBack};
-ghost use Rattle.aa_ring.specs.Ringed.{with_written, with_room, HasRoom};
+ghost use Rattle.allocator_api2.specs.Copies.{MayCallTimes};
+ghost use Rattle.aa_ring.specs.Extending.{AppendFails, AppendsClones, AppendsCopies, AppendsPart, AppendsResults, RolledBack};
+ghost use Rattle.aa_ring.specs.Ringed.{with_written, with_room, HasRoom, LacksRoom};
 
 use crate::ring::Ring;
 use allocator_api2::collections::{TryReserveError, TryReserveErrorKind};
@@ -122,4 +123,74 @@ impl<T, A: Allocator> Ring<T, A> {
             drop(self.pop_front());
         }
     }
+}
+
+impl<T, A: Allocator> Ring<T, A> {
+    /// Truncates the ring to `new_len` items, or appends results of `f` up to that length.
+    ///
+    /// `f` is called once for each new item, in order. Truncates as `truncate` does. Else allocates
+    /// as `reserve` does, once and before the first call of `f`.
+    ///
+    /// # Errors
+    /// `CapacityOverflow` or `AllocError`, as `reserve` returns them. The ring is unchanged, and `f`
+    /// is not called.
+    #[tactic(auto, using(crate::proofs::Filling::resulting))]
+    pub fn resize_with<F: FnMut() -> T>(
+        &mut self,
+        new_len: usize,
+        mut f: F,
+    ) -> Result<(), TryReserveError>
+    where
+        T: Drop,
+        requires { MayCallTimes (λ g. F.pre g) F.step (new_len - length self.old.items) f }
+
+        // The call succeeds if the new items fit, and always if it truncates.
+        ensures fits { HasRoom self.old (new_len - length self.old.items) → IsOk result }
+        ensures truncated { new_len ≤ length self.old.items
+            → self.new ≡ with_written self.old (take new_len self.old.items) 0 }
+        ensures shrink_succeeds { new_len ≤ length self.old.items → IsOk result }
+
+        // Success fills the new places.
+        ensures filled { let more = new_len - length self.old.items in
+            let roomy = with_room (type_size T.row) self.old more in
+            OnOk result (length self.old.items < new_len
+            → (last : F) × AppendsResults F.step roomy more f last self.new) }
+
+        // An error changes nothing.
+        ensures error { IfErr result
+            (LacksRoom (type_size T.row) self.old (new_len - length self.old.items)) }
+        ensures unchanged { OnErr result (self.new ≡ self.old) }
+    {
+        let len = self.len();
+        if new_len <= len {
+            self.truncate(new_len);
+            return Ok(());
+        }
+        if let Err(error) = self.reserve(new_len - len) {
+            return Err(error);
+        }
+        self.push_results(new_len - len, &mut f);
+        Ok(())
+    }
+
+    // Appends `count` results of `f`, which must fit; `f` is called once for each.
+    #[tactic(auto, using(crate::proofs::Filling::resulting))]
+    fn push_results<F: FnMut() -> T>(&mut self, count: usize, f: &mut F)
+        requires room { HasRoom self.old count }
+        requires callable { MayCallTimes (λ g. F.pre g) F.step count f.old }
+        ensures { AppendsResults F.step self.old count f.old f.new self.new }
+    {
+        'each: for _done in 0..count {
+            self.put_back(result_of(f));
+        }
+    }
+}
+
+// Calls `f` and returns its result.
+#[inline(always)]
+fn result_of<T, F: FnMut() -> T>(f: &mut F) -> T
+    requires { F.pre f.old }
+    ensures { F.step f.old result f.new }
+{
+    f()
 }

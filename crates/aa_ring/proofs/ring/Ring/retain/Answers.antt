@@ -1,31 +1,15 @@
-use Rattle.std.proofs.Common.{◌<◌, length, refl, arith}
+use Rattle.std.proofs.Common.{rules}
 use Rattle.std.specs.Fn.{TakesAt}
 use Rattle.allocator_api2.specs.Choosing.{Reads}
-use Rattle.aa_ring.proofs.Retaining.{may-next, next-kept, next-passed, room, some-left, kept-all}
+use Rattle.aa_ring.proofs.Retaining.{callable-on, kept-all, retains-on}
 use Rattle.aa_ring.proofs.ring.Ring.retain.Goals as goal
-use Rattle.aa_ring.proofs.ring.Ring.retain.Goals.{then-call_on, else-call_on}
 
-pub call_on-requires : goal.call_on-requires
-call_on-requires g c =
-    may-next (Reads g.F.FnMut) (TakesAt g.F.FnMut) c.args.f c.args.self.now c.each._done c.each.f c.each.self c.pop_front.new.self c.each.invariant c.in-Some.item (omega (arith, c.each-test.true, c.len-done-end.ensures.count)) c.in-Some.ensures.taken c.pop_front.ensures.kept
+pub retain_by-requires : goal.retain_by-requires
+retain_by-requires g c = callable-on (λ q. q.0) _ (Reads g.F.FnMut) (λ q x answer r y a. search rules) _ (TakesAt g.F.FnMut) (λ q x may. search rules) _ c.args.self.now.items c.requires
 
-pub each-preserved : goal.each-preserved
-each-preserved g c =
-    let few : c.each._done < length c.args.self.now.items = omega (arith, c.each-test.true, c.len-done-end.ensures.count) in
-    elim c.if-call_on.branch [
-      | then-call_on w ↦ rw (w.self-is) (next-kept (Reads g.F.FnMut) (TakesAt g.F.FnMut) c.args.f c.args.self.now c.each._done c.each.f c.each.self c.pop_front.new.self c.each.invariant c.in-Some.item few c.in-Some.ensures.taken c.pop_front.ensures.kept c.call_on.new.test w.put_back.new.self (rw w.if-call_on.true at c.call_on.ensures, refl) w.put_back.ensures)
-      | else-call_on w ↦ rw (w.self-is) (next-passed (Reads g.F.FnMut) (TakesAt g.F.FnMut) c.args.f c.args.self.now c.each._done c.each.f c.each.self c.pop_front.new.self c.each.invariant c.in-Some.item few c.in-Some.ensures.taken c.pop_front.ensures.kept c.call_on.new.test (rw w.if-call_on.false at c.call_on.ensures, refl))
-    ]
-
-pub put_back-requires : goal.put_back-requires
-put_back-requires g c =
-    room (Reads g.F.FnMut) (TakesAt g.F.FnMut) c.args.f c.args.self.now c.each._done c.each.f c.each.self c.pop_front.new.self c.each.invariant c.in-Some.item (omega (arith, c.each-test.true, c.len-done-end.ensures.count)) c.in-Some.ensures.taken c.pop_front.ensures.kept
-    (omega (arith, c.len-done-end.ensures.count, c.len-done-end.ensures.within))
-
-pub unreachable-requires : goal.unreachable-requires
-unreachable-requires g c =
-    some-left (Reads g.F.FnMut) (TakesAt g.F.FnMut) c.args.f c.args.self.now c.each._done c.each.f c.each.self c.each.invariant (omega (arith, c.each-test.true, c.len-done-end.ensures.count)) c.in_default.ensures.taken.0
+pub returns-clause-retained : goal.returns-clause-retained
+returns-clause-retained g c = (_, retains-on (λ q. q.0) _ (Reads g.F.FnMut) (λ q x answer r y a. search rules) _ c.args.self.now _ _ c.retain_by.ensures)
 
 pub returns-clause-pure_test : goal.returns-clause-pure_test
 returns-clause-pure_test g c =
-    λ test pure. kept-all (Reads g.F.FnMut) (TakesAt g.F.FnMut) c.args.f c.args.self.now c.each._done c.each.f c.each.self test (λ x b h y e. let p = pure x b h e.0 in (p.0, e.1, p.1)) c.each.invariant (omega (arith, c.each-test.false, c.len-done-end.ensures.count))
+    λ test pure. kept-all (Reads g.F.FnMut) _ c.args.self.now _ c.retain_by.new.self test (λ x b h y e. let p = pure x b h e.0 in (p.0, e.1, p.1)) (returns-clause-retained g c).1
