@@ -1,8 +1,9 @@
 -- A binary search in one of two lists in line, which are sorted: in the second unless its first element is greater.
-use Rattle.std.proofs.Common.{inl, inr, ◌⊎◌, ◌≡◌, ℕ, ◌+◌, ◌-◌, ◌<◌, ◌≤◌, List, ◌++◌, Result, Ok, Err, length, get_or, refl, ap, ◌∙◌, arith, length-append}
+use Rattle.std.proofs.Common.{inl, inr, ◌⊎◌, ◌≡◌, ℕ, ◌+◌, ◌-◌, ◌<◌, ◌≤◌, Bool, true, false, Bor, List, [], ◌∷◌, ◌++◌, Result, Ok, Err, length, get_or, refl, sym, ap, ◌∙◌, arith, length-append}
+use Rattle.std.specs.Fn.{CalledAt, ComputesKey, Mut}
 use Rattle.std.specs.List.{HoldsAt}
-use Rattle.std.specs.List.Sorted.{IsBinarySearchResult, IsNonDecreasingBy, IsPartitionPoint, IsSearchInRange}
-use Rattle.std.specs.Ordering.{ordering_index}
+use Rattle.std.specs.List.Sorted.{IsBinarySearchResult, IsNonDecreasingBy, IsPartitionedBy, IsPartitionPoint, IsSearchInRange}
+use Rattle.std.specs.Ordering.{is_gt, ordering_index}
 use Rattle.std.specs.declared.cmp.Ordering.{Ordering}
 use Rattle.std.specs.declared.cmp.Ordering.TheVariants.{Less, Equal, Greater}
 use Rattle.std.proofs.lemmas.List.{get_or_append_left, get_or-append_right}
@@ -92,3 +93,71 @@ module _ {X : Type 0} (ord : X → Ordering) (xs ys : List X) where
           ]),
           (λ k d a b. ap ord (right k d (omega (arith, a))) ∙ p.1 (k - length xs) d (omega (arith, a)) (omega (arith, a, b, length-append xs ys))),
         )
+
+-- calls of a closure that computes a function
+module _ {F X K : Type 0} (g : Mut F (Bor X × Unit {0}) K) (key : X → K) (f : F) (x : X) (r : K) (f' : F) (c : CalledAt g f x r f') (h : ComputesKey g key f) where
+  pub computed : r ≡ key x
+  computed = (h.at ((c.shown, tt) ∷ []) r f' c.called).0 ∙ ap key c.shows
+
+  pub computes-next : ComputesKey g key f'
+  computes-next = record { at = λ xs. (h.at ((c.shown, tt) ∷ xs) r f' c.called).1 }
+
+-- whether an order is `Greater`
+pub gt_is : (o : Ordering) → is_gt o ≡ true → o ≡ Greater
+gt_is Less e = cc
+gt_is Equal e = cc
+gt_is Greater e = refl
+
+pub not_gt : (o : Ordering) → is_gt o ≡ false → ¬ (o ≡ Greater)
+not_gt Less e f = cc
+not_gt Equal e f = cc
+not_gt Greater e f = cc
+
+not_true : (b : Bool) → ¬ (b ≡ true) → b ≡ false
+not_true true h = absurd (h refl)
+not_true false h = refl
+
+-- the end of those that pass, in one of two lists in line: in the second if its first element passes
+module _ {X : Type 0} (p : X → Bool) (xs ys : List X) where
+  at-left : (k : ℕ) (d : X) → k < length xs → p (get_or (xs ++ ys) k d) ≡ p (get_or xs k d)
+  at-left k d few = ap p (get_or_append_left xs ys d k few)
+
+  at-right : (k : ℕ) (d : X) → length xs ≤ k → p (get_or (xs ++ ys) k d) ≡ p (get_or ys (k - length xs) d)
+  at-right k d past = ap p (get_or-append_right xs ys (length xs) k d refl past)
+
+  at-later : (k : ℕ) (d : X) → p (get_or (xs ++ ys) (length xs + k) d) ≡ p (get_or ys k d)
+  at-later k d = let z : length xs + k - length xs ≡ k = omega arith in at-right (length xs + k) d (omega arith) ∙ ap (λ i. p (get_or ys i d)) z
+
+  parted-left : IsPartitionedBy p (xs ++ ys) → IsPartitionedBy p xs
+  parted-left up i j d a b e = sym (at-left i d (omega (arith, a, b))) ∙ up i j d a (omega (arith, b, length-append xs ys)) (at-left j d b ∙ e)
+
+  parted-right : IsPartitionedBy p (xs ++ ys) → IsPartitionedBy p ys
+  parted-right up i j d a b e =
+      sym (at-later i d) ∙ up (length xs + i) (length xs + j) d (omega (arith, a)) (omega (arith, b, length-append xs ys)) (at-later j d ∙ e)
+
+  pub point-first : ((d : X) → 0 < length ys → p (get_or ys 0 d) ≡ false) → (i : ℕ) → i ≤ length xs → (IsPartitionedBy p xs → IsPartitionPoint (λ y. p y ≡ true) (λ y. p y ≡ false) xs i)
+      → IsPartitionedBy p (xs ++ ys) → IsPartitionPoint (λ y. p y ≡ true) (λ y. p y ≡ false) (xs ++ ys) i
+  point-first fails i few h up =
+      let q = h (parted-left up) in let n : ℕ = length xs in (
+        (λ k d a b. at-left k d (omega (arith, b, few)) ∙ q.0 k d a b),
+        (λ k d a b. elim (split k n) [
+          | inl early ↦ at-left k d early ∙ q.1 k d a early
+          | inr high ↦ not_true (p (get_or (xs ++ ys) k d)) (λ passes.
+              let z : n + 0 ≡ n = omega arith in
+              let first : p (get_or ys 0 d) ≡ true = sym (at-later 0 d) ∙ ap (λ j. p (get_or (xs ++ ys) j d)) z ∙ up n k d high b passes in
+              let other : p (get_or ys 0 d) ≡ false = fails d (omega (arith, high, b, length-append xs ys)) in cc)
+        ]),
+      )
+
+  pub point-second : 0 < length ys → ((d : X) → p (get_or ys 0 d) ≡ true) → (i : ℕ) → i ≤ length ys → (IsPartitionedBy p ys → IsPartitionPoint (λ y. p y ≡ true) (λ y. p y ≡ false) ys i)
+      → IsPartitionedBy p (xs ++ ys) → IsPartitionPoint (λ y. p y ≡ true) (λ y. p y ≡ false) (xs ++ ys) (length xs + i)
+  point-second some passes i few h up =
+      let q = h (parted-right up) in let n : ℕ = length xs in (
+        (λ k d a b. elim (split k n) [
+          | inl early ↦
+              let z : n + 0 ≡ n = omega arith in
+              up k n d (omega (arith, early)) (omega (arith, some, length-append xs ys)) (ap (λ j. p (get_or (xs ++ ys) j d)) (sym z) ∙ at-later 0 d ∙ passes d)
+          | inr high ↦ at-right k d high ∙ q.0 (k - n) d (omega arith) (omega (arith, b, high))
+        ]),
+        (λ k d a b. at-right k d (omega (arith, a)) ∙ q.1 (k - n) d (omega (arith, a)) (omega (arith, a, b, length-append xs ys))),
+      )

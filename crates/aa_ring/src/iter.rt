@@ -92,6 +92,16 @@ pub(crate) fn part_of<'a, T>(
     )
 }
 
+// Returns an iterator over the items of one slice.
+pub(crate) fn over_slice<T>(items: &[T]) -> Iter<'_, T>
+    ensures { result ≡ items.now }
+{
+    Iter {
+        first: items,
+        others: &items[items.len()..],
+    }
+}
+
 impl<'a, T> Iterator for Iter<'a, T> {
     type Item = &'a T;
 

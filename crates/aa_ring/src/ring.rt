@@ -8,6 +8,7 @@ ghost use Rattle.aa_ring.specs.Ringed.{empty, with_written, with_room, HasRoom, 
 use allocator_api2::collections::{Refused, TryReserveError};
 use allocator_api2::counter::Counter;
 use allocator_api2::raw_vec::RawVec;
+pub use compare::{compare_items, partial_compare_items, same, same_as_slice};
 use std::alloc::{Allocator, Global};
 use std::marker::Model;
 

@@ -1,5 +1,5 @@
 //! The ring.
-use aa_ring::ring::Ring;
+use aa_ring::ring::{Ring, same, same_as_slice};
 use allocator_api2::collections::{TryReserveError, TryReserveErrorKind};
 use allocator_api2::vec::Vec;
 use std::alloc::{AllocError, Global};
@@ -280,6 +280,8 @@ fn rings_are_compared(rt: HostRuntime) {
     let heap = Faulty::new(rt.alloc());
     let (less, more) = (turned(&heap, 0..5), turned(&heap, 0..6));
     assert!(rt; less == less && less < more && heap.requests() == 4);
+    assert!(rt; same(&less, &less) && !same(&less, &more));
+    assert!(rt; same_as_slice(&less, &[0, 1, 2, 3, 4]) && !same_as_slice(&less, &[0, 1, 2, 3]));
 }
 
 // Turns the ring to the left, or to the right, if it has as many items.
@@ -380,6 +382,10 @@ fn sorted_items_are_found_and_shown(rt: HostRuntime) {
     assert!(rt; has(&ring, &[0, 2, 4, 6, 8]));
     for (item, found) in [(0, Ok(0)), (6, Ok(3)), (8, Ok(4)), (1, Err(1)), (9, Err(5))] {
         assert!(rt; ring.binary_search(&item) == found);
+        assert!(rt; ring.binary_search_by(|other| other.cmp(&item)) == found);
+    }
+    for (end, count) in [(0, 0), (1, 1), (5, 3), (9, 5)] {
+        assert!(rt; ring.partition_point(|item| *item < end) == count);
     }
     if ring.len() == 5 {
         let mut part = ring.range(1..);

@@ -5,17 +5,36 @@ ghost use Rattle.std.specs.Hash.{on_Alike, items_Alike};
 ghost use Rattle.std.specs.Cmp.{on_equiv, on_total, on_po, on_per};
 ghost use Rattle.std.specs.Cmp.Lexicographic.{pointwise, slice_cmp, slice_partial_cmp, lists_equiv, lists_agrees, lists_total, lists_ties, lists_po, lists_per};
 
+use crate::iter::{Iter, over_slice};
 use crate::ring::Ring;
 use std::alloc::Allocator;
 use std::cmp::Ordering;
 use std::hash::{Hash, Hasher};
 
 /// Returns whether the items are equal, one by one. The two allocators may be of different types.
+///
+/// Corresponds to the standard library's `==` of a ring and another.
 pub fn same<T: PartialEq, A: Allocator, B: Allocator>(left: &Ring<T, A>, right: &Ring<T, B>) -> bool
     ensures { result ≡ pointwise T.eq left.now.items right.now.items }
 {
-    let mut items = left.iter();
-    let mut others = right.iter();
+    remaining_are_same(left.iter(), right.iter())
+}
+
+/// Returns whether the items are equal to those of the slice `right`, one by one.
+///
+/// Corresponds to the standard library's `==` of a ring and a slice, an array or a vector.
+pub fn same_as_slice<T: PartialEq, A: Allocator>(left: &Ring<T, A>, right: &[T]) -> bool
+    ensures { result ≡ pointwise T.eq left.now.items right.now }
+{
+    remaining_are_same(left.iter(), over_slice(right))
+}
+
+// Returns whether the remaining items of two iterators are equal, one by one.
+fn remaining_are_same<'a, 'b, T: PartialEq>(left: Iter<'a, T>, right: Iter<'b, T>) -> bool
+    ensures { result ≡ pointwise T.eq left.entry right.entry }
+{
+    let mut items = left;
+    let mut others = right;
     'each: loop {
         match (items.next(), others.next()) {
             (None, None) => return true,
