@@ -2,7 +2,7 @@
 use Rattle.std.proofs.Common.{◌≡◌, ℕ, ◌+◌, ◌-◌, ◌≤◌, Bool, true, false, List, [], ◌∷◌, ◌++◌, length, take, drop, refl, sym, ap, ◌∙◌, arith, append_assoc, drop-drop, length-append, length-drop}
 use Rattle.std.specs.Prelude.{if◌then◌else◌, reverse, Result, Ok, Err, IfErr, OnOk}
 use Rattle.std.specs.List.{refill, slice_range}
-use Rattle.std.proofs.lemmas.List.{drop-append-le, drop_at, length-reverse, length-take-le, reverse-append, take-append-le, take_at}
+use Rattle.std.proofs.lemmas.List.{append-nil, drop-append-le, drop_all, drop_at, length-reverse, length-take-le, reverse-append, take-append-le, take_all, take_at}
 use Rattle.aa_inline.specs.Extending.{with_tail_at}
 use Rattle.aa_inline.specs.Inlined.{Inlined, with_written, HasRoom}
 use Rattle.aa_inline.specs.Lends.{written}
@@ -26,18 +26,32 @@ module _ {X : Type 0} where
       rw (take-append-le i xs ys (omega arith), drop_at xs ys n (sym e), drop-append-le i xs ys (omega arith), take_at (drop i xs) ys (n - i) (omega (arith, e, length-drop i xs)))
       (append_assoc (take i xs) ys (drop i xs))
 
-  -- the range was moved to the end, and removed there
+  -- the range was moved to the end: what is before it there, and the range
+  module _ (xs : List X) (i n k : ℕ) (k-is : k ≡ length xs - (n - i)) (h : i ≤ n) (few : n ≤ length xs) where
+    others-count : length (take i xs ++ drop n xs) ≡ k
+    others-count = omega (arith, k-is, h, few, length-append (take i xs) (drop n xs), length-take-le i xs (omega arith), length-drop n xs)
+
+    pub take-others : take k (with_tail_at i n xs) ≡ take i xs ++ drop n xs
+    take-others = take_at (take i xs ++ drop n xs) (slice_range xs i n) k others-count
+
+    pub drop-others : drop k (with_tail_at i n xs) ≡ slice_range xs i n
+    drop-others = drop_at (take i xs ++ drop n xs) (slice_range xs i n) k others-count
+
+  -- and it was removed there
   pub range-left : (xs ys zs : List X) (i n : ℕ) → with_tail_at i n xs ≡ ys ++ reverse zs → length ys ≡ length xs - (n - i) → i ≤ n → n ≤ length xs → ys ≡ take i xs ++ drop n xs
   range-left xs ys zs i n e long h few =
-      let rest = take i xs ++ drop n xs in
-      let all : length rest ≡ length xs - (n - i) = omega (arith, h, few, length-append (take i xs) (drop n xs), length-take-le i xs (omega arith), length-drop n xs) in
-      sym (take_at ys (reverse zs) (length xs - (n - i)) long) ∙ ap (take (length xs - (n - i))) (sym e) ∙ take_at rest (slice_range xs i n) (length xs - (n - i)) all
+      sym (take_at ys (reverse zs) (length ys) refl) ∙ ap (take (length ys)) (sym e) ∙ take-others xs i n (length ys) long h few
 
   pub range-taken : (xs ys zs : List X) (i n : ℕ) → with_tail_at i n xs ≡ ys ++ reverse zs → length ys ≡ length xs - (n - i) → i ≤ n → n ≤ length xs → reverse zs ≡ slice_range xs i n
   range-taken xs ys zs i n e long h few =
-      let rest = take i xs ++ drop n xs in
-      let all : length rest ≡ length xs - (n - i) = omega (arith, h, few, length-append (take i xs) (drop n xs), length-take-le i xs (omega arith), length-drop n xs) in
-      sym (drop_at ys (reverse zs) (length xs - (n - i)) long) ∙ ap (drop (length xs - (n - i))) (sym e) ∙ drop_at rest (slice_range xs i n) (length xs - (n - i)) all
+      sym (drop_at ys (reverse zs) (length ys) refl) ∙ ap (drop (length ys)) (sym e) ∙ drop-others xs i n (length ys) long h few
+
+  -- a range to the end
+  pub range-to_end : (xs : List X) (i n : ℕ) → n ≡ length xs → slice_range xs i n ≡ drop i xs
+  range-to_end xs i n e = take_all (n - i) (drop i xs) (omega (arith, e, length-drop i xs))
+
+  pub none-after : (xs : List X) (i n : ℕ) → n ≡ length xs → take i xs ++ drop n xs ≡ take i xs
+  none-after xs i n e = ap (λ ys. take i xs ++ ys) (drop_all n xs (omega (arith, e))) ∙ append-nil (take i xs)
 
   pub length-range : (xs : List X) (i n : ℕ) → i ≤ n → n ≤ length xs → length (slice_range xs i n) ≡ n - i
   length-range xs i n h few = length-take-le (n - i) (drop i xs) (omega (arith, few, length-drop i xs))
@@ -90,5 +104,9 @@ pub ruleset bringing = (with_tail_at-is, length-drop, length-with_tail_at, lengt
 pub ruleset moving = (moved-on, put-none, put-on, room-on, length-append)
 
 pub ruleset ranging = (length-with_tail_at, with_tail_at-append, range-left, range-taken, length-range)
+
+pub ruleset draining = (take-others, drop-others, length-with_tail_at, length-range)
+
+pub ruleset splitting = (range-to_end, none-after)
 
 pub ruleset gathering = (length-append, append_assoc)

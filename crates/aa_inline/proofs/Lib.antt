@@ -1,5 +1,7 @@
 pub mod Bringing
 pub mod Deduplicating
+pub mod Distinguishing
+pub mod Draining
 pub mod Extending
 pub mod Filling
 pub mod Fews

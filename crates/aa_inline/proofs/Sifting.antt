@@ -1,11 +1,13 @@
 -- Items that are kept by calls of a closure, one for each.
 use Rattle.std.proofs.Common.{◌≡◌, ℕ, ◌+◌, ◌<◌, ◌≤◌, Bool, true, false, List, [], ◌∷◌, ◌++◌, length, take, drop, get_or, Some, refl, sym, ap, ◌∙◌, subst, arith, length-set, take-take}
-use Rattle.std.specs.Prelude.{filter, slice_get, slice_set}
+use Rattle.std.specs.Prelude.{filter, slice_get, slice_set, MatchOption, None, Option}
 use Rattle.std.proofs.lemmas.Grind.{drop_more_same}
 use Rattle.std.proofs.lemmas.Option.{get_or_from_slice_get}
-use Rattle.std.proofs.lemmas.List.{drop-set-lt, drop_more, take_more, take-set-le}
+use Rattle.std.proofs.lemmas.List.{drop-set-lt, drop_more, same_from_push, take_all, take_more, take-set-le}
 use Rattle.aa_inline.proofs.Fews.{take-push}
-use Rattle.allocator_api2.specs.Choosing.{Call, CalledInOrder, MayCallInOrder, kept}
+use Rattle.allocator_api2.specs.Choosing.{Call, CalledInOrder, IsCallableInOrder, MayCallInOrder, kept}
+use Rattle.aa_inline.specs.Inlined.{Inlined}
+use Rattle.aa_inline.specs.Retaining.{Retains, TestsLast}
 
 module _ {F T : Type 0} (Calls : F → T → Bool → F → T → Type 0) where
   -- one call more
@@ -52,33 +54,79 @@ module _ {F T : Type 0} (Calls : F → T → Bool → F → T → Type 0) (Takes
     pub may-next : Takes g x
     may-next = may.0
 
-    called : (b : Bool) (h : F) → Calls g x b h x → CalledInOrder Calls f (take (i + 1) xs) (s.0.0 ++ record { result = b; left = x } ∷ []) h
-    called b h c =
-        subst (λ zs. CalledInOrder Calls f zs (s.0.0 ++ record { result = b; left = x } ∷ []) h) (sym (take_more xs i x few ∙ ap (λ y. take i xs ++ y ∷ []) same))
-        (called-more Calls f g h (take i xs) s.0.0 x (record { result = b; left = x }) s.0.1 c)
+    called : (b : Bool) (h : F) (y : T) → Calls g x b h y → CalledInOrder Calls f (take (i + 1) xs) (s.0.0 ++ record { result = b; left = y } ∷ []) h
+    called b h y c =
+        subst (λ zs. CalledInOrder Calls f zs (s.0.0 ++ record { result = b; left = y } ∷ []) h) (sym (take_more xs i x few ∙ ap (λ z. take i xs ++ z ∷ []) same))
+        (called-more Calls f g h (take i xs) s.0.0 x (record { result = b; left = y }) s.0.1 c)
 
-    -- which is then passed over, or kept
-    pub next-passed : (h : F) (d : T) → Calls g x false h x → SiftsTo f xs (i + 1) k h (slice_set ys i d)
-    next-passed h d c = (
-      (s.0.0 ++ record { result = false; left = x } ∷ [], called false h c, take-set-le k ys i d s.3 ∙ s.0.2 ∙ sym (kept-same s.0.0 x)),
-      may.1 false h x c,
+    -- which the closure leaves as `y`, and which is then passed over, or kept
+    pub next-passed : (h : F) (y d : T) → Calls g x false h y → SiftsTo f xs (i + 1) k h (slice_set ys i d)
+    next-passed h y d c = (
+      (s.0.0 ++ record { result = false; left = y } ∷ [], called false h y c, take-set-le k ys i d s.3 ∙ s.0.2 ∙ sym (kept-same s.0.0 y)),
+      may.1 false h y c,
       drop-set-lt (i + 1) ys i d (omega arith) ∙ drop_more_same ys xs i s.2,
       omega (arith, s.3),
       length-set ys i d ∙ s.4,
     )
 
-    pub next-kept : (h : F) (d : T) → Calls g x true h x → SiftsTo f xs (i + 1) (k + 1) h (slice_set (slice_set ys i d) k x)
-    next-kept h d c =
+    pub next-kept : (h : F) (y d : T) → Calls g x true h y → SiftsTo f xs (i + 1) (k + 1) h (slice_set (slice_set ys i d) k y)
+    next-kept h y d c =
         let zs = slice_set ys i d in let long : length zs ≡ length xs = length-set ys i d ∙ s.4 in (
           (
-            s.0.0 ++ record { result = true; left = x } ∷ [],
-            called true h c,
-            take-push zs k x (omega (arith, long, few, s.3)) ∙ ap (λ ws. ws ++ x ∷ []) (take-set-le k ys i d s.3 ∙ s.0.2) ∙ sym (kept-more s.0.0 x),
+            s.0.0 ++ record { result = true; left = y } ∷ [],
+            called true h y c,
+            take-push zs k y (omega (arith, long, few, s.3)) ∙ ap (λ ws. ws ++ y ∷ []) (take-set-le k ys i d s.3 ∙ s.0.2) ∙ sym (kept-more s.0.0 y),
           ),
-          may.1 true h x c,
-          drop-set-lt (i + 1) zs k x (omega (arith, s.3)) ∙ drop-set-lt (i + 1) ys i d (omega arith) ∙ drop_more_same ys xs i s.2,
+          may.1 true h y c,
+          drop-set-lt (i + 1) zs k y (omega (arith, s.3)) ∙ drop-set-lt (i + 1) ys i d (omega arith) ∙ drop_more_same ys xs i s.2,
           omega (arith, s.3),
-          length-set zs k x ∙ long,
+          length-set zs k y ∙ long,
         )
+
+-- a closure in the state `q` passes its calls on to another, which is in the state `inner q`
+module _ {Q F T : Type 0} (inner : Q → F) (Outer : Q → T → Bool → Q → T → Type 0) (Inner : F → T → Bool → F → T → Type 0) (passes : (q : Q) (x : T) (b : Bool) (r : Q) (y : T) → Outer q x b r y → Inner (inner q) x b (inner r) y) where
+  called-on : (q : Q) (xs : List T) (calls : List (Call T)) (r : Q) → CalledInOrder Outer q xs calls r → CalledInOrder Inner (inner q) xs calls (inner r)
+  called-on q [] [] r a = ap inner a
+  called-on q (x ∷ xs) (c ∷ calls) r a = (inner a.0, passes q x c.result a.0 c.left a.1, called-on a.0 xs calls r a.2)
+  called-on q xs calls r a = absurd a
+
+  pub retains-on : {A : Type 0} (q : Q) (old : Inlined T A) (r : Q) (new : Inlined T A) → Retains Outer q old r new → Retains Inner (inner q) old (inner r) new
+  retains-on q old r new h = record { calls = h.calls; called = called-on q old.items h.calls r h.called; put = h.put }
+
+  module _ (TakesOuter : Q → T → Type 0) (TakesInner : F → T → Type 0) (takes : (q : Q) (x : T) → TakesInner (inner q) x → TakesOuter q x) where
+    may-on : (q : Q) (xs : List T) → MayCallInOrder Inner TakesInner (inner q) xs → MayCallInOrder Outer TakesOuter q xs
+    may-on q [] may = tt
+    may-on q (x ∷ xs) may = (takes q x may.0, λ b r y a. may-on r xs (may.1 b (inner r) y (passes q x b r y a)))
+
+    pub callable-on : (q : Q) (xs : List T) → IsCallableInOrder Inner TakesInner (inner q) xs → IsCallableInOrder Outer TakesOuter q xs
+    callable-on q xs may = record { along = may-on q xs may.along }
+
+-- the last item
+module _ {T : Type 0} (xs : List T) (i : ℕ) (x : T) (last : i + 1 ≡ length xs) (here : slice_get xs i ≡ Some x) where
+  had : xs ≡ take i xs ++ x ∷ []
+  had =
+      sym (take_all (i + 1) xs (omega (arith, last))) ∙ take_more xs i x (omega (arith, last)) ∙ ap (λ z. take i xs ++ z ∷ []) (get_or_from_slice_get xs i x x here)
+
+  -- a closure that may be called for it
+  pub may-test : (Takes : T → Type 0) → ((others : List T) (l : T) → xs ≡ others ++ l ∷ [] → Takes l) → Takes x
+  may-test Takes may = may (take i xs) x had
+
+  module _ {F : Type 0} (Returns : F → T → Bool → T → Type 0) (f : F) (y : T) where
+    abbrev zs : List T
+    zs = slice_set xs i y
+
+    has : zs ≡ take i xs ++ y ∷ []
+    has = sym (take_all (i + 1) zs (omega (arith, last, length-set xs i y))) ∙ take-push xs i y (omega (arith, last))
+
+    -- leaves it as `y`, and it is popped then
+    pub popped-if : (ys : List T) (result : Option T) → Returns f x true y → MatchOption result ((zs ≡ []) × (ys ≡ [])) (λ w. zs ≡ ys ++ w ∷ []) → TestsLast Returns f xs result ys
+    popped-if ys None called p = absurd (omega (arith, last, length-set xs i y, ap length p.0))
+    popped-if ys (Some w) called p =
+        let same = same_from_push ys (take i xs) w y (sym p ∙ has) in
+        record { others = take i xs; last = x; had = had; test = true; left = y; called = called; ends = (ap Some same.1, same.0) }
+
+    -- or not
+    pub left-if : Returns f x false y → TestsLast Returns f xs None zs
+    left-if called = record { others = take i xs; last = x; had = had; test = false; left = y; called = called; ends = (refl, has) }
 
 pub ruleset sifted = (take-take, length-set)

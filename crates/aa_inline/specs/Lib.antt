@@ -5,3 +5,4 @@ pub mod FewInner
 pub mod FewLends
 pub mod Lends
 pub mod Extending
+pub mod Drain

@@ -1,19 +1,21 @@
 //! `Few`: up to `N` items in an array.
 ghost use Rattle.std.specs.Prelude.{◌≡◌, ◌+◌, ◌-◌, ◌<◌, ◌≤◌, [], ◌∷◌, ◌++◌, length, slice_get, slice_index_or, slice_set, insert, remove, swap_remove, take, Some};
 ghost use Rattle.std.specs.Borrow.{sem};
-ghost use Rattle.std.specs.Fn.{CalledAt, TakesAt};
-ghost use Rattle.allocator_api2.specs.Choosing.{IsCallableInOrder, Reads};
+ghost use Rattle.std.specs.Fn.{CalledAtMut, CalledAtPairMut};
+ghost use Rattle.allocator_api2.specs.Choosing.{CallableAtMut, IsCallableAlong, IsCallableInOrder};
+ghost use Rattle.allocator_api2.specs.Closures.{CallableAtPairMut};
 ghost use Rattle.allocator_api2.specs.Vector.{HasRoom, SameBlock, Writes};
-ghost use Rattle.aa_inline.specs.Retaining.{Sifts};
+ghost use Rattle.aa_inline.specs.Retaining.{Distinguishes, Sifts};
 
 use allocator_api2::vec::Vec;
 use std::alloc::Allocator;
+use std::default::MadeWith;
 use std::marker::Model;
 use std::{array, mem};
 
 /// Up to `N` items in an array.
 ///
-/// They are at the first places. Every other place holds a blank, which is a default of `T`.
+/// They are at the first places. Every other place holds a blank, which `T::made_with` makes.
 /// Contracts see a list.
 #[derive(Drop)]
 pub struct Few<T, const N: usize> {
@@ -110,34 +112,37 @@ impl<T, const N: usize> Few<T, N> {
 }
 
 #[tactic(auto, using(crate::proofs::Fews::in_places))]
-impl<T: Default, const N: usize> Few<T, N> {
-    /// Returns an empty list: all places hold blanks.
-    pub fn new() -> Self
+impl<T, const N: usize> Few<T, N> {
+    /// Returns an empty list: all places hold blanks made with `alloc`.
+    pub fn new<A: Copy>(alloc: A) -> Self
+    where
+        T: MadeWith<A>,
         ensures { result ≡ [] }
     {
         Few {
-            places: array::from_fn(|_| T::default()),
+            places: array::from_fn(|_| T::made_with(alloc)),
             len: 0,
         }
     }
 
-    /// Removes the last item and returns it. The list must not be empty.
-    pub fn pop(&mut self) -> T
+    /// Removes the last item and returns it. The list must not be empty. `blank` replaces the item.
+    pub fn pop(&mut self, blank: T) -> T
         requires { 0 < length self.old }
         ensures { self.old ≡ self.new ++ result ∷ [] }
     {
         self.len -= 1;
-        mem::take(&mut self.places[self.len])
+        mem::replace(&mut self.places[self.len], blank)
     }
 
-    /// Removes the item at `index` and returns it. The items after it shift down by one.
+    /// Removes the item at `index` and returns it. The items after it shift down by one; `blank`
+    /// replaces the last one.
     #[tactic(auto, using(crate::proofs::Fews::carried))]
-    pub fn remove(&mut self, index: usize) -> T
+    pub fn remove(&mut self, index: usize, blank: T) -> T
         requires { index < length self.old }
         ensures value { slice_get self.old index ≡ Some result }
         ensures items { self.new ≡ remove self.old index }
     {
-        let mut carried = self.pop();
+        let mut carried = self.pop(blank);
         let mut i = self.len();
         'each: while i > index {
             i -= 1;
@@ -146,49 +151,52 @@ impl<T: Default, const N: usize> Few<T, N> {
         carried
     }
 
-    /// Removes the item at `index` and returns it. The last item replaces it.
-    pub fn swap_remove(&mut self, index: usize) -> T
+    /// Removes the item at `index` and returns it. The last item replaces it, and `blank` the last
+    /// one.
+    pub fn swap_remove(&mut self, index: usize, blank: T) -> T
         requires { index < length self.old }
         ensures value { slice_get self.old index ≡ Some result }
         ensures items { self.new ≡ swap_remove self.old index result }
     {
-        let last = self.pop();
+        let last = self.pop(blank);
         if index == self.len() {
             return last;
         }
         self.replace(index, last)
     }
 
-    /// Keeps the first `len` items, and drops the others, in order.
+    /// Keeps the first `len` items, and drops the others, in order. Makes blanks with `alloc`.
     #[tactic(auto, using(crate::proofs::Fews::in_places, crate::proofs::Fews::cut))]
-    pub fn truncate(&mut self, len: usize)
+    pub fn truncate<A: Copy>(&mut self, len: usize, alloc: A)
     where
-        T: Drop,
+        T: MadeWith<A> + Drop,
         ensures { self.new ≡ take len self.old }
     {
         if len >= self.len() {
             return;
         }
         'each: for i in len..self.len() {
-            drop(self.replace(i, T::default()));
+            drop(self.replace(i, T::made_with(alloc)));
         }
         self.len = len;
     }
 
     /// Keeps only the items for which `keep` returns `true`, in order, and drops the others.
     ///
-    /// Each item is moved out for its call.
+    /// Each item is moved out for its call, and kept or dropped as `keep` leaves it. Makes blanks
+    /// with `alloc`.
     #[tactic(auto, using(crate::proofs::Fews::in_places, crate::proofs::Sifting::sifted))]
-    pub fn retain<F: FnMut(&T) -> bool + Drop>(&mut self, mut keep: F)
+    pub fn retain_by<A: Copy, F: FnMut(&mut T) -> bool>(&mut self, keep: &mut F, alloc: A)
     where
-        T: Drop,
-        requires { IsCallableInOrder (Reads F.FnMut) (TakesAt F.FnMut) keep self.old }
-        ensures { (last : F) × Sifts (Reads F.FnMut) keep self.old last self.new }
+        T: MadeWith<A> + Drop,
+        requires { IsCallableInOrder (CalledAtMut F.FnMut)
+            (CallableAtMut F.FnMut) keep.old self.old }
+        ensures { Sifts (CalledAtMut F.FnMut) keep.old self.old keep.new self.new }
     {
         let mut kept = 0;
         'each: for i in 0..self.len() {
-            let item = self.replace(i, T::default());
-            if call_on(&mut keep, &item) {
+            let mut item = self.replace(i, T::made_with(alloc));
+            if call_on(keep, &mut item) {
                 drop(self.replace(kept, item));
                 kept += 1;
             }
@@ -196,9 +204,51 @@ impl<T: Default, const N: usize> Few<T, N> {
         self.len = kept;
     }
 
+    /// Removes each item for which `same` returns `true` beside the last item kept before it, and
+    /// drops it.
+    ///
+    /// Each item but the first is moved out for its call. Makes blanks with `alloc`.
+    #[tactic(auto, using(crate::proofs::Fews::in_places, crate::proofs::Distinguishing::distinguished))]
+    pub fn dedup_within<A: Copy, F: FnMut(&mut T, &mut T) -> bool>(
+        &mut self,
+        same: &mut F,
+        alloc: A,
+    )
+    where
+        T: MadeWith<A> + Drop,
+        requires { IsCallableAlong (CalledAtPairMut F.FnMut) (CallableAtPairMut F.FnMut)
+            same.old self.old }
+        ensures { Distinguishes (CalledAtPairMut F.FnMut) same.old self.old same.new self.new }
+    {
+        let len = self.len();
+        if len < 2 {
+            return;
+        }
+        let mut kept = 1;
+        'each: for i in 1..len {
+            let mut item = self.replace(i, T::made_with(alloc));
+            if !call_on_pair(same, &mut item, self.item_mut(kept - 1)) {
+                drop(self.replace(kept, item));
+                kept += 1;
+            }
+        }
+        self.cut(kept);
+    }
+
+    // Keeps the first `len` items, of which there are so many. The others are blanks.
+    #[tactic(auto, using(crate::proofs::Fews::in_places, crate::proofs::Fews::cut))]
+    fn cut(&mut self, len: usize)
+        requires { len ≤ length self.old }
+        ensures { self.new ≡ take len self.old }
+    {
+        self.len = len;
+    }
+
     /// Moves all items, in order, to the end of a vector, in which they must fit. Leaves this list
     /// empty.
-    pub fn pour<A: Allocator>(&mut self, into: &mut Vec<T, A>)
+    pub fn pour<A: Allocator + Copy>(&mut self, into: &mut Vec<T, A>)
+    where
+        T: MadeWith<A>,
         requires { HasRoom into.old (length self.old) }
         ensures emptied { self.new ≡ [] }
         ensures items { into.new.items ≡ into.old.items ++ self.old }
@@ -210,13 +260,27 @@ impl<T: Default, const N: usize> Few<T, N> {
     }
 }
 
-// Calls `test` at `item`.
+// Calls `f` at `item`.
 #[inline(always)]
-fn call_on<T, F: FnMut(&T) -> bool>(test: &mut F, item: &T) -> bool
-    requires { TakesAt F.FnMut test.old item.now }
-    ensures { CalledAt F.FnMut test.old item.now result test.new }
+pub fn call_on<T, R, F: FnMut(&mut T) -> R>(f: &mut F, item: &mut T) -> R
+    requires { CallableAtMut F.FnMut f.old item.old }
+    ensures { CalledAtMut F.FnMut f.old item.old result f.new item.new }
 {
-    test(item)
+    f(item)
+}
+
+// Calls `same` at `item` and `last`, with one lifetime for both.
+#[inline(always)]
+fn call_on_pair<'a, T, F: FnMut(&mut T, &mut T) -> bool>(
+    same: &mut F,
+    item: &'a mut T,
+    last: &'a mut T,
+) -> bool
+    requires { CallableAtPairMut F.FnMut same.old item.old last.old }
+    ensures { CalledAtPairMut F.FnMut same.old item.old last.old result
+        same.new item.new last.new }
+{
+    same(item, last)
 }
 
 // Replaces the value at `i` by `item` and returns the old one.
@@ -230,7 +294,7 @@ fn exchange<T, const N: usize>(places: &mut [T; N], i: usize, item: T) -> T
 
 // Moves the first `len` values of `places` to the end of a vector, in which they must fit. Leaves
 // blanks.
-fn pour_first<T: Default, A: Allocator, const N: usize>(
+fn pour_first<T: MadeWith<A>, A: Allocator + Copy, const N: usize>(
     places: &mut [T; N],
     len: usize,
     into: &mut Vec<T, A>,
@@ -245,8 +309,9 @@ fn pour_first<T: Default, A: Allocator, const N: usize>(
     ensures block { SameBlock into.old into.new }
     ensures written { Writes into.old len len into.new }
 {
+    let alloc = *into.allocator();
     'each: for i in 0..len {
-        push_within(into, mem::take(&mut places[i]));
+        push_within(into, mem::replace(&mut places[i], T::made_with(alloc)));
     }
 }
 

@@ -9,6 +9,7 @@ use crate::few::{Few, insert_within, push_within};
 use allocator_api2::collections::{Refused, TryReserveError, TryReserveErrorKind};
 use allocator_api2::vec::Vec;
 use std::alloc::Allocator;
+use std::default::MadeWith;
 use std::marker::Model;
 use std::mem;
 
@@ -34,8 +35,8 @@ pub(crate) enum Data<T, A: Allocator, const N: usize> {
 /// A vector over the allocator `A` that stores up to `N` items inline.
 ///
 /// If one more is added, it spills: all items move into a block, where they remain until `grow` or
-/// `shrink_to_fit` moves them back. Inline places without an item hold a blank, which is a default
-/// of `T`.
+/// `shrink_to_fit` moves them back. Inline places without an item hold a blank, which the allocator
+/// makes (`MadeWith`): a default of `T`, or an empty collection.
 #[derive(Drop)]
 pub struct InlineVec<T, A: Allocator, const N: usize> {
     pub(crate) data: Data<T, A, N>,
@@ -143,7 +144,7 @@ impl<T, A: Allocator, const N: usize> InlineVec<T, A, N> {
     }
 }
 
-impl<T: Default + Drop, A: Allocator + Copy, const N: usize> InlineVec<T, A, N> {
+impl<T: MadeWith<A> + Drop, A: Allocator + Copy, const N: usize> InlineVec<T, A, N> {
     /// Returns an empty vector.
     ///
     /// Does not allocate.
@@ -151,7 +152,7 @@ impl<T: Default + Drop, A: Allocator + Copy, const N: usize> InlineVec<T, A, N> 
         ensures { result ≡ in_place [] alloc }
     {
         InlineVec {
-            data: Data::InPlace(Few::new(), alloc),
+            data: Data::InPlace(Few::new(alloc), alloc),
         }
     }
 
@@ -224,7 +225,7 @@ impl<T: Default + Drop, A: Allocator + Copy, const N: usize> InlineVec<T, A, N> 
     {
         match &mut self.data {
             Data::InPlace(few, _) if few.len() == 0 => return None,
-            Data::InPlace(few, _) => return Some(few.pop()),
+            Data::InPlace(few, alloc) => return Some(few.pop(T::made_with(*alloc))),
             Data::InBlock(heap) => heap.pop(),
         }
     }
@@ -272,7 +273,7 @@ impl<T: Default + Drop, A: Allocator + Copy, const N: usize> InlineVec<T, A, N> 
             self.new ≡ with_written self.old (remove self.old.items index) tail_len }
     {
         match &mut self.data {
-            Data::InPlace(few, _) => return few.remove(index),
+            Data::InPlace(few, alloc) => return few.remove(index, T::made_with(*alloc)),
             Data::InBlock(heap) => heap.remove(index),
         }
     }
@@ -372,7 +373,7 @@ impl<T: Default + Drop, A: Allocator + Copy, const N: usize> InlineVec<T, A, N> 
 // Moves the items of `few` into a new block of at least `needed` places, and returns it as a
 // vector.
 #[tactic(auto, unfolding(crate::specs::Inlined::LacksBlock))]
-fn move_to_block<T: Default + Drop, A: Allocator, const N: usize>(
+fn move_to_block<T: MadeWith<A> + Drop, A: Allocator + Copy, const N: usize>(
     few: &mut Few<T, N>,
     alloc: A,
     needed: usize,

@@ -12,10 +12,11 @@ ghost use Rattle.aa_inline.specs.Inlined.{in_place};
 
 use crate::inline::{Data, InlineVec};
 use std::alloc::{AllocError, Allocator};
+use std::default::MadeWith;
 use std::fmt::{Debug, Formatter};
 use std::iter::FusedIterator;
 use std::marker::Model;
-use std::ops::{Index, IndexMut, RangeFull};
+use std::ops::{Index, IndexMut};
 use std::slice::{Iter, IterMut};
 use std::{fmt, mem};
 
@@ -54,7 +55,7 @@ impl<T, A: Allocator, const N: usize> InlineVec<T, A, N> {
     }
 
     // Returns a mutable reference to the item at `index`.
-    fn item_mut(&mut self, index: usize) -> &mut T
+    pub(crate) fn item_mut(&mut self, index: usize) -> &mut T
         requires { index < length self.old.items }
         ensures* writes_back { sem 𝓛
             (lends_item T.row A.row N.row A.Allocator self.entry index result) }
@@ -194,27 +195,8 @@ impl<T, A: Allocator, const N: usize> InlineVec<T, A, N> {
     }
 }
 
-impl<T: Default + Drop, A: Allocator + Copy, const N: usize> InlineVec<T, A, N> {
-    /// Removes all items and returns a double-ended iterator that owns them. The range is `..`.
-    ///
-    /// Does not allocate. The iterator has the block too, if there is one, and the vector is inline
-    /// afterwards.
-    pub fn drain(&mut self, _all: RangeFull) -> IntoIter<T, A, N>
-        // The iterator has all items.
-        ensures items { result ≡ self.old.items }
-        ensures runs { YieldsInOrder (YieldsFirst {A = T} (λ rest. rest)) (λ rest. rest) }
-        ensures runs_back { YieldsInReverse (YieldsLast {A = T} (λ rest. rest)) (λ rest. rest) }
-
-        // The vector is as a new one.
-        ensures emptied { self.new ≡ in_place [] self.old.alloc }
-    {
-        let alloc = *self.allocator();
-        let items = mem::replace(self, InlineVec::new_in(alloc));
-        items.into_iter()
-    }
-}
-
-impl<T: Default + Drop, A: Allocator + Copy, const N: usize> IntoIterator for InlineVec<T, A, N> {
+impl<T: MadeWith<A> + Drop, A: Allocator + Copy, const N: usize> IntoIterator
+    for InlineVec<T, A, N> {
     type Item = T;
 
     type IntoIter = IntoIter<T, A, N>;
@@ -228,7 +210,7 @@ impl<T: Default + Drop, A: Allocator + Copy, const N: usize> IntoIterator for In
     }
 }
 
-impl<T: Default + Drop, A: Allocator + Copy, const N: usize> Iterator for IntoIter<T, A, N> {
+impl<T: MadeWith<A> + Drop, A: Allocator + Copy, const N: usize> Iterator for IntoIter<T, A, N> {
     type Item = T;
 
     ghost next_gives = { YieldsFirst (λ rest. rest) };
@@ -243,7 +225,8 @@ impl<T: Default + Drop, A: Allocator + Copy, const N: usize> Iterator for IntoIt
             return None;
         }
         self.front = front + 1;
-        Some(self.rest.replace(front, T::default()))
+        let blank = T::made_with(*self.rest.allocator());
+        Some(self.rest.replace(front, blank))
     }
 
     /// Returns the exact number of the remaining items.
@@ -258,7 +241,7 @@ impl<T: Default + Drop, A: Allocator + Copy, const N: usize> Iterator for IntoIt
     }
 }
 
-impl<T: Default + Drop, A: Allocator + Copy, const N: usize> DoubleEndedIterator
+impl<T: MadeWith<A> + Drop, A: Allocator + Copy, const N: usize> DoubleEndedIterator
     for IntoIter<T, A, N> {
     ghost next_back_gives = { YieldsLast (λ rest. rest) };
 
@@ -272,7 +255,7 @@ impl<T: Default + Drop, A: Allocator + Copy, const N: usize> DoubleEndedIterator
     }
 }
 
-impl<T: Default + Drop, A: Allocator + Copy, const N: usize> ExactSizeIterator
+impl<T: MadeWith<A> + Drop, A: Allocator + Copy, const N: usize> ExactSizeIterator
     for IntoIter<T, A, N> {
     #[tactic(auto, using(crate::proofs::Fews::left))]
     fn len(&self) -> usize {
@@ -280,9 +263,10 @@ impl<T: Default + Drop, A: Allocator + Copy, const N: usize> ExactSizeIterator
     }
 }
 
-impl<T: Default + Drop, A: Allocator + Copy, const N: usize> FusedIterator for IntoIter<T, A, N> {}
+impl<T: MadeWith<A> + Drop, A: Allocator + Copy, const N: usize> FusedIterator
+    for IntoIter<T, A, N> {}
 
-impl<T: Default + Clone, A: Allocator + Copy, const N: usize> Clone for IntoIter<T, A, N> {
+impl<T: MadeWith<A> + Clone, A: Allocator + Copy, const N: usize> Clone for IntoIter<T, A, N> {
     ghost is_clone = { AllZip T.is_clone };
 
     ghost is_infallible = { λ left. (length left ≤ N) × All T.is_infallible left };

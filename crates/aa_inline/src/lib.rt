@@ -2,6 +2,7 @@
 //! block.
 #![tactic(auto)]
 
+pub mod drain;
 mod few;
 pub mod inline;
 pub mod iter;

@@ -10,7 +10,7 @@ use std::alloc::{AllocError, Allocator};
 use std::default::{Emptied, MadeWith};
 use std::iter::{Extend, FromIterator};
 
-impl<T: Default + Drop, A: Allocator + Copy, const N: usize> FromIterator<T>
+impl<T: MadeWith<A> + Drop, A: Allocator + Copy, const N: usize> FromIterator<T>
     for InlineVec<T, A, N> {
     type Alloc = A;
 
@@ -32,7 +32,7 @@ impl<T: Default + Drop, A: Allocator + Copy, const N: usize> FromIterator<T>
     }
 }
 
-impl<T: Default + Drop, A: Allocator + Copy, const N: usize> Extend<T> for InlineVec<T, A, N> {
+impl<T: MadeWith<A> + Drop, A: Allocator + Copy, const N: usize> Extend<T> for InlineVec<T, A, N> {
     ghost extend_gives = { λ s xs t. t.items ≡ s.items ++ xs };
 
     /// Appends the items as the inherent `extend` does, whose error also has the number.
@@ -51,7 +51,8 @@ impl<T: Default + Drop, A: Allocator + Copy, const N: usize> Extend<T> for Inlin
     }
 }
 
-impl<T: Default + Drop, A: Allocator + Copy, const N: usize> MadeWith<A> for InlineVec<T, A, N> {
+impl<T: MadeWith<A> + Drop, A: Allocator + Copy, const N: usize> MadeWith<A>
+    for InlineVec<T, A, N> {
     ghost is_made_with = { λ s. s ≡ in_place [] s.alloc };
 
     /// Returns the same as `new_in`.
@@ -63,7 +64,7 @@ impl<T: Default + Drop, A: Allocator + Copy, const N: usize> MadeWith<A> for Inl
     }
 }
 
-impl<T: Default + Drop, A: Allocator + Copy, const N: usize> Emptied for InlineVec<T, A, N> {
+impl<T: MadeWith<A> + Drop, A: Allocator + Copy, const N: usize> Emptied for InlineVec<T, A, N> {
     ghost is_emptied = { λ s. s ≡ in_place [] s.alloc };
 
     /// Returns an empty vector over the allocator of `like`.
@@ -77,7 +78,7 @@ impl<T: Default + Drop, A: Allocator + Copy, const N: usize> Emptied for InlineV
     }
 }
 
-impl<T: Default + Clone, A: Allocator + Copy, const N: usize> Clone for InlineVec<T, A, N> {
+impl<T: MadeWith<A> + Clone, A: Allocator + Copy, const N: usize> Clone for InlineVec<T, A, N> {
     ghost is_clone = { λ s copy. IsMadeOf T.is_clone (type_size T.row) N s.items s.alloc copy };
 
     ghost is_infallible = { λ s. (length s.items ≤ N) × All T.is_infallible s.items };
@@ -91,7 +92,7 @@ impl<T: Default + Clone, A: Allocator + Copy, const N: usize> Clone for InlineVe
     }
 }
 
-impl<'a, T: Default + Copy + 'a, A: Allocator + Copy, const N: usize> Extend<&'a T>
+impl<'a, T: MadeWith<A> + Copy + 'a, A: Allocator + Copy, const N: usize> Extend<&'a T>
     for InlineVec<T, A, N> {
     ghost extend_gives = { λ s rs t. t.items ≡ s.items ++ map (λ r. r.now) rs };
 

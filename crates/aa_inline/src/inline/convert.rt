@@ -9,8 +9,9 @@ use crate::inline::{Data, InlineVec};
 use allocator_api2::boxed::BoxedSlice;
 use allocator_api2::collections::{Refused, TryReserveError};
 use std::alloc::Allocator;
+use std::default::MadeWith;
 
-impl<T: Default + Drop, A: Allocator + Copy, const N: usize> InlineVec<T, A, N> {
+impl<T: MadeWith<A> + Drop, A: Allocator + Copy, const N: usize> InlineVec<T, A, N> {
     /// Returns the items as a boxed slice.
     ///
     /// Allocates a block for exactly the items, except if they are in such a block already.
@@ -54,7 +55,7 @@ impl<T: Default + Drop, A: Allocator + Copy, const N: usize> InlineVec<T, A, N> 
 
 // Moves the items of `few` into a new block for exactly these, and returns it as a boxed slice.
 #[tactic(auto, unfolding(crate::specs::Inlined::in_new_block), using(allocator_api2::proofs::Blocks::with_room))]
-fn move_to_boxed_slice<T: Default + Drop, A: Allocator, const N: usize>(
+fn move_to_boxed_slice<T: MadeWith<A> + Drop, A: Allocator + Copy, const N: usize>(
     few: &mut Few<T, N>,
     alloc: A,
 ) -> Result<BoxedSlice<T, A>, TryReserveError>

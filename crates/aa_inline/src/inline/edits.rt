@@ -10,8 +10,9 @@ ghost use Rattle.aa_inline.specs.Inlined.{Inlined, in_place, with_items, with_ro
 use crate::inline::InlineVec;
 use allocator_api2::collections::TryReserveError;
 use std::alloc::Allocator;
+use std::default::MadeWith;
 
-impl<T: Default + Drop, A: Allocator + Copy, const N: usize> InlineVec<T, A, N> {
+impl<T: MadeWith<A> + Drop, A: Allocator + Copy, const N: usize> InlineVec<T, A, N> {
     /// Inserts the items of `iter`, which must end, at `index`, in order.
     ///
     /// Allocates as `extend` does: not at all if the remaining items of `iter` fit in the capacity.
@@ -93,6 +94,37 @@ impl<T: Default + Drop, A: Allocator + Copy, const N: usize> InlineVec<T, A, N> 
         Ok(taken)
     }
 
+    /// Splits the vector at `at`, which is at most the length, and returns the items from there on
+    /// as a small vector of their own.
+    ///
+    /// The other items remain inline, or in the block. Allocates only if more than `N` items are
+    /// split off.
+    ///
+    /// # Errors
+    /// `CapacityOverflow`, or `AllocError` with at least the number of these items, if the
+    /// allocation fails. The vector is unchanged.
+    #[tactic(auto, using(crate::proofs::Bringing::splitting))]
+    pub fn split_off(&mut self, at: usize) -> Result<Self, TryReserveError>
+        requires { at ≤ length self.old.items }
+
+        // If at most `N` items are split off, the call succeeds.
+        ensures fits { length self.old.items - at ≤ N → IsOk result }
+
+        // Success returns the items from `at` on, and keeps the others.
+        ensures split { let n = length self.old.items - at in
+            let roomy = with_room (type_size T.row) N (in_place [] self.old.alloc) n in
+            IfOk result (λ s. s ≡ with_written roomy (drop at self.old.items) n) }
+        ensures remaining { OnOk result (self.new ≡ with_items self.old (take at self.old.items)) }
+
+        // Failure changes nothing.
+        ensures error { IfErr result (LacksRoom (type_size T.row) N
+            (in_place {T = T} [] self.old.alloc) (length self.old.items - at)) }
+        ensures unchanged { OnErr result (self.new ≡ self.old) }
+    {
+        let len = self.len();
+        self.take_range(at, len)
+    }
+
     /// Moves all items of `other` to the end of this vector, and leaves `other` empty.
     ///
     /// Allocates only if the items do not fit, as `reserve` does. The capacity of `other` does not
@@ -136,7 +168,7 @@ impl<T: Default + Drop, A: Allocator + Copy, const N: usize> InlineVec<T, A, N> 
 
     // Moves the items from `from` on before the one at `index`.
     #[tactic(auto, using(crate::proofs::Bringing::bringing))]
-    fn move_tail(&mut self, index: usize, from: usize)
+    pub(crate) fn move_tail(&mut self, index: usize, from: usize)
         requires { (index ≤ from) × (from ≤ length self.old.items) }
         ensures { self.new ≡ with_items self.old (with_tail_at index from self.old.items) }
     {

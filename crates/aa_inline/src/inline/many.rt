@@ -11,8 +11,9 @@ ghost use Rattle.aa_inline.specs.Inlined.{Inlined, in_place, with_room, with_wri
 use crate::inline::InlineVec;
 use allocator_api2::collections::{TryReserveError, TryReserveErrorKind};
 use std::alloc::Allocator;
+use std::default::MadeWith;
 
-impl<T: Default + Drop, A: Allocator + Copy, const N: usize> InlineVec<T, A, N> {
+impl<T: MadeWith<A> + Drop, A: Allocator + Copy, const N: usize> InlineVec<T, A, N> {
     /// Appends the items of `iter`, which must end.
     ///
     /// Reserves capacity for the lower bound of `size_hint` as `reserve` does, then pushes each
@@ -123,7 +124,7 @@ impl<T: Default + Drop, A: Allocator + Copy, const N: usize> InlineVec<T, A, N> 
     }
 }
 
-impl<T: Default + Drop + Clone, A: Allocator + Copy, const N: usize> InlineVec<T, A, N> {
+impl<T: MadeWith<A> + Drop + Clone, A: Allocator + Copy, const N: usize> InlineVec<T, A, N> {
     /// Returns a new small vector with a clone of each item of `source`.
     ///
     /// Reserves capacity for all of them before the first item is cloned. Allocates only if they

@@ -10,9 +10,10 @@ use crate::inline::{Data, InlineVec};
 use allocator_api2::collections::TryReserveError;
 use allocator_api2::vec::Vec;
 use std::alloc::Allocator;
+use std::default::MadeWith;
 use std::mem;
 
-impl<T: Default + Drop, A: Allocator + Copy, const N: usize> InlineVec<T, A, N> {
+impl<T: MadeWith<A> + Drop, A: Allocator + Copy, const N: usize> InlineVec<T, A, N> {
     /// Returns an empty vector with capacity for `capacity` items, or for `N` if that is more.
     ///
     /// Allocates only if `capacity` is more than `N`, and then a block of exactly that many places.
@@ -121,7 +122,7 @@ impl<T: Default + Drop, A: Allocator + Copy, const N: usize> InlineVec<T, A, N> 
 // Moves the items of `few` into a new block of exactly `capacity` places, and returns it as a
 // vector.
 #[tactic(auto, unfolding(crate::specs::Inlined::in_new_block))]
-pub(super) fn move_to_exact_block<T: Default + Drop, A: Allocator, const N: usize>(
+pub(super) fn move_to_exact_block<T: MadeWith<A> + Drop, A: Allocator + Copy, const N: usize>(
     few: &mut Few<T, N>,
     alloc: A,
     capacity: usize,
@@ -163,11 +164,13 @@ fn resize<T, A: Allocator>(heap: &mut Vec<T, A>, capacity: usize) -> Result<(), 
 
 // Returns the items of a vector, which are at most `N`, inline.
 #[tactic(auto, using(crate::proofs::Bringing::gathering))]
-fn collect_in_place<T: Default + Drop, A: Allocator, const N: usize>(items: Vec<T, A>) -> Few<T, N>
+fn collect_in_place<T: MadeWith<A> + Drop, A: Allocator + Copy, const N: usize>(
+    items: Vec<T, A>,
+) -> Few<T, N>
     requires { length items.items ≤ N }
     ensures { result ≡ items.items }
 {
-    let mut few = Few::new();
+    let mut few = Few::new(*items.allocator());
     for item in items {
         few.push(item);
     }

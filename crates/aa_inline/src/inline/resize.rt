@@ -8,8 +8,9 @@ ghost use Rattle.aa_inline.specs.Inlined.{with_items, with_written, with_room, H
 use crate::inline::InlineVec;
 use allocator_api2::collections::{TryReserveError, TryReserveErrorKind};
 use std::alloc::Allocator;
+use std::default::MadeWith;
 
-impl<T: Default + Drop + Clone, A: Allocator + Copy, const N: usize> InlineVec<T, A, N> {
+impl<T: MadeWith<A> + Drop + Clone, A: Allocator + Copy, const N: usize> InlineVec<T, A, N> {
     /// Truncates the vector to `new_len` items, or appends clones of `value` up to that length.
     ///
     /// The last new item is `value` itself. Truncates as `truncate` does. Else allocates as

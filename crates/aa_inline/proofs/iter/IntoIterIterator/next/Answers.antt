@@ -6,7 +6,7 @@ pub returns-clause-steps : goal.returns-clause-steps
 returns-clause-steps g c =
     let xs = c.self.inside.rest.items in let i = c.self.inside.front in
     let few : i < length xs = grind (arith, c.if-front-len.false, c.len.ensures, c.self.invariant) in
-    sym c.self.view_is ∙ left-next xs i c.replace.result c.default.result few c.replace.ensures.old ∙ ap (λ s. c.replace.result ∷ drop (i + 1) s.items) (sym c.replace.ensures.replaced)
+    sym c.self.view_is ∙ left-next xs i c.replace.result c.made_with-blank.result few c.replace.ensures.old ∙ ap (λ s. c.replace.result ∷ drop (i + 1) s.items) (sym c.replace.ensures.replaced)
 
 pub returns-clause-goes : goal.returns-clause-goes
 returns-clause-goes g c =
