@@ -1,6 +1,6 @@
-//! The cases over Rust's own map and queue, and over a gap buffer in plain Rust on its own vector.
+//! The cases over Rust's own maps and queue, and over a gap buffer in plain Rust on its own vector.
 use super::checksum_from;
-use std::collections::{HashMap, VecDeque};
+use std::collections::{BTreeMap, HashMap, VecDeque};
 use std::hash::{BuildHasherDefault, Hasher};
 
 /// The hasher that the toolchain's map has, for keys of 8 bytes: the product with a fixed number in 128 bits, its halves joined.
@@ -41,6 +41,7 @@ include!("gap.rs");
 pub struct Held {
     keys: Vec<u64>,
     table: Numbers,
+    map: BTreeMap<u64, u64>,
     queue: VecDeque<u32>,
     text: GapBuffer,
     sum: u64,
@@ -50,12 +51,16 @@ impl Held {
     /// Fills the collection as the case finds it, and returns whether there is such a case.
     pub fn prepare(&mut self, case: &str, count: u32) -> bool {
         match case {
-            "table_insert" => fill_keys(&mut self.keys, count, 0),
+            "table_insert" | "map_insert" => fill_keys(&mut self.keys, count, 0),
             "table_hit" | "table_remove" => self.fill_table(count),
             "table_miss" => {
                 self.fill_table(count);
                 self.keys.clear();
                 fill_keys(&mut self.keys, count, 1 << 32);
+            }
+            "map_get" | "map_remove" | "map_scan" => {
+                fill_keys(&mut self.keys, count, 0);
+                map_insert(&mut self.map, &self.keys);
             }
             "ring_queue" => ring_push(&mut self.queue, 100),
             "ring_push" | "inline_few" => (),
@@ -77,6 +82,10 @@ impl Held {
             "table_hit" => self.sum = table_hit(&self.table, &self.keys),
             "table_miss" => self.sum = table_miss(&self.table, &self.keys),
             "table_remove" => self.sum = table_remove(&mut self.table, &self.keys),
+            "map_insert" => map_insert(&mut self.map, &self.keys),
+            "map_get" => self.sum = map_get(&self.map, &self.keys),
+            "map_remove" => self.sum = map_remove(&mut self.map, &self.keys),
+            "map_scan" => self.sum = map_scan(&self.map),
             "ring_queue" => ring_queue(&mut self.queue, count),
             "ring_push" => ring_push(&mut self.queue, count),
             "gap_insert" => gap_insert(&mut self.text),
@@ -93,6 +102,7 @@ impl Held {
         let values = self.keys.iter().fold(self.sum.wrapping_add(self.table.len() as u64), |values, key| {
             values.wrapping_mul(31).wrapping_add(self.table.get(key).copied().unwrap_or(0))
         });
+        let values = self.map.iter().fold(values, |values, (key, value)| values.wrapping_mul(31).wrapping_add(key ^ value));
         items.wrapping_add(values)
     }
 }
@@ -141,6 +151,44 @@ fn table_remove(table: &mut Numbers, keys: &[u64]) -> u64 {
         if let Some(value) = table.remove(key) {
             sum = sum.wrapping_add(value);
         }
+    }
+    sum
+}
+
+#[inline(never)]
+fn map_insert(map: &mut BTreeMap<u64, u64>, keys: &[u64]) {
+    for key in keys {
+        map.insert(*key, *key >> 1);
+    }
+}
+
+#[inline(never)]
+fn map_get(map: &BTreeMap<u64, u64>, keys: &[u64]) -> u64 {
+    let mut sum: u64 = 0;
+    for key in keys {
+        if let Some(value) = map.get(key) {
+            sum = sum.wrapping_add(*value);
+        }
+    }
+    sum
+}
+
+#[inline(never)]
+fn map_remove(map: &mut BTreeMap<u64, u64>, keys: &[u64]) -> u64 {
+    let mut sum: u64 = 0;
+    for key in keys {
+        if let Some(value) = map.remove(key) {
+            sum = sum.wrapping_add(value);
+        }
+    }
+    sum
+}
+
+#[inline(never)]
+fn map_scan(map: &BTreeMap<u64, u64>) -> u64 {
+    let mut sum: u64 = 0;
+    for (key, value) in map {
+        sum = sum.wrapping_mul(31).wrapping_add(key ^ value);
     }
     sum
 }

@@ -119,7 +119,7 @@ pub enum Pieces {
     Written,
 }
 
-/// A call on a table from `u64` to `u64`, on a queue or on a small vector.
+/// A call on a table or an ordered map from `u64` to `u64`, on a queue or on a small vector.
 ///
 /// Keys are in no regular order.
 #[derive(Clone, Copy, PartialEq, Drop)]
@@ -132,6 +132,14 @@ pub enum Collection {
     TableMiss,
     /// Removes each key of a table.
     TableRemove,
+    /// Inserts keys into an empty ordered map.
+    MapInsert,
+    /// Looks up each key of an ordered map.
+    MapGet,
+    /// Removes each key of an ordered map.
+    MapRemove,
+    /// Visits each entry of an ordered map, in the order of the keys.
+    MapScan,
     /// Pushes at the back of a queue of 100 numbers and pops at the front.
     RingQueue,
     /// Pushes at the back of an empty queue.
@@ -323,6 +331,10 @@ fn collection_of(name: &str) -> Option<Collection>
         "table_hit" => Collection::TableHit,
         "table_miss" => Collection::TableMiss,
         "table_remove" => Collection::TableRemove,
+        "map_insert" => Collection::MapInsert,
+        "map_get" => Collection::MapGet,
+        "map_remove" => Collection::MapRemove,
+        "map_scan" => Collection::MapScan,
         "ring_queue" => Collection::RingQueue,
         "ring_push" => Collection::RingPush,
         "inline_few" => Collection::InlineFew,

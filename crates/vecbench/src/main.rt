@@ -1,4 +1,4 @@
-//! Measures the library's vector, and the table and the ring of this repository, beside the
+//! Measures the library's vector, and the other collections of this repository, beside the
 //! toolchain's own, case by case.
 //!
 //! Each line of the input is a case to run: `CASE COUNT [REPEAT]`. The result is one line: the

@@ -1,7 +1,8 @@
-//! The cases over this repository's table, ring and small vector.
+//! The cases over this repository's table, ordered map, ring and small vector.
 
 use crate::checksum::checksum_from;
 use aa_inline::inline::InlineVec;
+use aa_ordered::map::OrderedMap;
 use aa_ring::ring::Ring;
 use aa_table::table::Table;
 use allocator_api2::vec::Vec;
@@ -11,6 +12,8 @@ use std::hash::{BuildHasherDefault, FoldHasher};
 
 // With the default hasher of the toolchain's map.
 type Numbers = Table<u64, u64, BuildHasherDefault<FoldHasher>, Global>;
+
+type Sorted = OrderedMap<u64, u64, Global>;
 
 type Queue = Ring<u32, Global>;
 
@@ -24,8 +27,9 @@ pub struct Held {
     // The keys that are inserted, looked up or removed, in this order.
     keys: Vec<u64>,
     table: Numbers,
+    map: Sorted,
     queue: Queue,
-    // The sum of the results of the look-ups or removals.
+    // The sum of the results of the look-ups or removals, or of the values that were visited.
     sum: u64,
 }
 
@@ -35,6 +39,7 @@ impl Held {
             alloc,
             keys: Vec::new(alloc),
             table: Table::new_in(alloc),
+            map: OrderedMap::new_in(alloc),
             queue: Ring::new_in(alloc),
             sum: 0,
         }
@@ -43,13 +48,17 @@ impl Held {
     /// Fills the collection as the case expects it, and returns whether every allocation succeeded.
     pub fn prepare(&mut self, collection: Collection, count: u32) -> bool {
         match collection {
-            Collection::TableInsert => fill_keys(&mut self.keys, count, 0),
+            Collection::TableInsert | Collection::MapInsert => fill_keys(&mut self.keys, count, 0),
             Collection::TableHit | Collection::TableRemove => self.fill_table(count),
             Collection::TableMiss => {
                 let filled = self.fill_table(count);
                 self.keys.clear();
                 // Keys of the table are below 2 ^ 32.
                 filled && fill_keys(&mut self.keys, count, 4_294_967_296)
+            }
+            Collection::MapGet | Collection::MapRemove | Collection::MapScan => {
+                fill_keys(&mut self.keys, count, 0)
+                    && map_insert(&mut self.map, self.keys.as_slice())
             }
             Collection::RingQueue => ring_push(&mut self.queue, 100),
             Collection::RingPush | Collection::InlineFew => true,
@@ -68,6 +77,10 @@ impl Held {
             Collection::TableHit => self.sum = table_hit(&self.table, keys),
             Collection::TableMiss => self.sum = table_miss(&self.table, keys),
             Collection::TableRemove => self.sum = table_remove(&mut self.table, keys),
+            Collection::MapInsert => return map_insert(&mut self.map, keys),
+            Collection::MapGet => self.sum = map_get(&self.map, keys),
+            Collection::MapRemove => self.sum = map_remove(&mut self.map, keys),
+            Collection::MapScan => self.sum = map_scan(&self.map),
             Collection::RingQueue => return ring_queue(&mut self.queue, count),
             Collection::RingPush => return ring_push(&mut self.queue, count),
             Collection::InlineFew => match inline_few(self.alloc, count) {
@@ -81,6 +94,7 @@ impl Held {
     /// Returns the checksum of the elements and of the results, continuing from `sum`.
     ///
     /// Keys are looked up in the order of the list, since the order of a table is unspecified.
+    /// Entries of the ordered map follow, in its order.
     pub fn checksum(&self, sum: u64) -> u64 {
         let (first, others) = self.queue.as_slices();
         let items = checksum_from(checksum_from(sum, first), others);
@@ -88,6 +102,9 @@ impl Held {
         for key in self.keys.as_slice() {
             let value = self.table.get(key).copied().unwrap_or(0);
             values = values.wrapping_mul(31).wrapping_add(value);
+        }
+        for (key, value) in self.map.iter() {
+            values = values.wrapping_mul(31).wrapping_add(*key ^ *value);
         }
         items.wrapping_add(values)
     }
@@ -141,6 +158,42 @@ fn table_remove(table: &mut Numbers, keys: &[u64]) -> u64 {
         if let Some(value) = table.remove(key) {
             sum = sum.wrapping_add(value);
         }
+    }
+    sum
+}
+
+#[inline(never)]
+fn map_insert(map: &mut Sorted, keys: &[u64]) -> bool {
+    each_is_granted!(key in keys, map.insert(*key, *key >> 1))
+}
+
+#[inline(never)]
+fn map_get(map: &Sorted, keys: &[u64]) -> u64 {
+    let mut sum: u64 = 0;
+    for key in keys {
+        if let Some(value) = map.get(key) {
+            sum = sum.wrapping_add(*value);
+        }
+    }
+    sum
+}
+
+#[inline(never)]
+fn map_remove(map: &mut Sorted, keys: &[u64]) -> u64 {
+    let mut sum: u64 = 0;
+    for key in keys {
+        if let Some(value) = map.remove(key) {
+            sum = sum.wrapping_add(value);
+        }
+    }
+    sum
+}
+
+#[inline(never)]
+fn map_scan(map: &Sorted) -> u64 {
+    let mut sum: u64 = 0;
+    for (key, value) in map.iter() {
+        sum = sum.wrapping_mul(31).wrapping_add(*key ^ *value);
     }
     sum
 }
