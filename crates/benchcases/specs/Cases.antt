@@ -1,7 +1,7 @@
 -- The names of the cases.
 use Rattle.std.specs.Prelude.{ℕ, List, codes, ◌++◌}
 use Rattle.benchcases.specs.declared.case.Case.{Case}
-use Rattle.benchcases.specs.declared.case.Case.TheVariants.{Sized, Chosen, Pieces as PiecesCase, Held, Used, PushPop, PushReserved, PushFull, FibPush, RetainWide, InsertFront, RemoveFront, SwapRemove, ExtendFromSlice, Extend, ExtendUnhinted, ExtendThrice, Append, SplitJoin, DrainTaken, DrainDropped, DrainFront, DrainBack, IntoIter, SpliceGrowing, SpliceInPlace, SpliceFront, InsertMiddle, GapInsert, GapTyping}
+use Rattle.benchcases.specs.declared.case.Case.TheVariants.{Sized, Chosen, Pieces as PiecesCase, Held, Used, PushPop, PushReserved, PushFull, FibPush, RetainWide, InsertFront, RemoveFront, SwapRemove, EqBytes, CmpBytes, ExtendFromSlice, Extend, ExtendUnhinted, ExtendThrice, Append, SplitJoin, DrainTaken, DrainDropped, DrainFront, DrainBack, IntoIter, SpliceGrowing, SpliceInPlace, SpliceFront, InsertMiddle, GapInsert, GapTyping}
 use Rattle.benchcases.specs.declared.case.Call.{Call}
 use Rattle.benchcases.specs.declared.case.Call.TheVariants.{Push, PushInPlace, InsertPop, RemovePush, Clone}
 use Rattle.benchcases.specs.declared.case.Choice.{Choice}
@@ -84,6 +84,8 @@ name_of RetainWide = codes "retain_wide"
 name_of InsertFront = codes "insert_front"
 name_of RemoveFront = codes "remove_front"
 name_of SwapRemove = codes "swap_remove"
+name_of EqBytes = codes "eq_bytes"
+name_of CmpBytes = codes "cmp_bytes"
 name_of ExtendFromSlice = codes "extend_from_slice"
 name_of Extend = codes "extend"
 name_of ExtendUnhinted = codes "extend_unhinted"

@@ -34,6 +34,10 @@ pub enum Case {
     RemoveFront,
     /// Removes the middle element, replacing it by the last, until the vector is empty.
     SwapRemove,
+    /// Compares two equal vectors of bytes by `==`.
+    EqBytes,
+    /// Compares two equal vectors of bytes by `cmp`.
+    CmpBytes,
     /// Extends an empty vector by a slice of bytes.
     ExtendFromSlice,
     /// Extends an empty vector by a range, which knows its length.
@@ -203,6 +207,8 @@ impl Case {
             "insert_front" => Case::InsertFront,
             "remove_front" => Case::RemoveFront,
             "swap_remove" => Case::SwapRemove,
+            "eq_bytes" => Case::EqBytes,
+            "cmp_bytes" => Case::CmpBytes,
             "extend_from_slice" => Case::ExtendFromSlice,
             "extend" => Case::Extend,
             "extend_unhinted" => Case::ExtendUnhinted,

@@ -47,6 +47,7 @@ fn a_name_may_have_a_size(rt: HostRuntime) {
         ),
         ("clone_zst", Case::Sized(Call::Clone, Size::Zero)),
         ("splice_front", Case::SpliceFront),
+        ("cmp_bytes", Case::CmpBytes),
         ("dedup_by_key", Case::Chosen(Choice::DedupByKey)),
         ("pieces_of_4", Case::Pieces(Pieces::OfFour)),
         ("table_hit", Case::Held(Collection::TableHit)),

@@ -12,6 +12,7 @@ use crate::standard::users::Users;
 use benchcases::case::{Call, Case, Choice, Pieces, Size};
 use benchcases::lines::Task;
 use std::alloc::Global;
+use std::cmp::Ordering;
 use std::io::Write;
 use std::mem::replace;
 
@@ -80,6 +81,14 @@ impl Lists for Vectors {
             Case::InsertFront => insert_front(&mut self.longs.list),
             Case::RemoveFront => remove_front(&mut self.longs.list),
             Case::SwapRemove => swap_remove(numbers, count),
+            Case::EqBytes => {
+                let is_equal = eq_bytes(&self.bytes.list, &self.bytes.other);
+                numbers.push(u32::from(is_equal)).is_ok()
+            }
+            Case::CmpBytes => {
+                let is_equal = cmp_bytes(&self.bytes.list, &self.bytes.other).is_eq();
+                numbers.push(u32::from(is_equal)).is_ok()
+            }
             Case::ExtendFromSlice => {
                 extend_from_slice(&mut self.bytes.list, self.source.as_slice())
             }
@@ -148,6 +157,12 @@ impl Vectors {
                 fill(&mut self.shorts.list, count, 1)
             }
             Case::DrainTaken | Case::DrainDropped => fill(numbers, count.saturating_mul(2), 1),
+            // A number, so that no allocation is needed for that of the result.
+            Case::EqBytes | Case::CmpBytes => {
+                fill(numbers, 1, 1)
+                    && fill(&mut self.bytes.list, count, 1)
+                    && fill(&mut self.bytes.other, count, 1)
+            }
             Case::ExtendFromSlice => fill(&mut self.source, count, 1),
             Case::Append => fill(&mut self.numbers.other, count, 1),
         }
@@ -442,6 +457,16 @@ fn pieces_mixed(list: &mut Vec<u8>, source: &[u8]) -> bool {
 #[inline(never)]
 fn write_pieces(list: &mut Vec<u8>, source: &[u8], count: u32) -> bool {
     each_is_granted!(piece of source.get(0..7), _ in 0..count, list.write_all(piece))
+}
+
+#[inline(never)]
+fn eq_bytes(list: &Vec<u8>, other: &Vec<u8>) -> bool {
+    list == other
+}
+
+#[inline(never)]
+fn cmp_bytes(list: &Vec<u8>, other: &Vec<u8>) -> Ordering {
+    list.cmp(other)
 }
 
 #[inline(never)]
