@@ -159,6 +159,45 @@ pub fn reserve<T, A: Allocator + Clone>(
     reserve_slots(slots, values.allocator(), capacity)
 }
 
+/// Shrinks the memory to that for exactly the slots that there are.
+///
+/// Moves the values into a smaller block, unless there is memory for no more slots.
+///
+/// # Errors
+/// `AllocError` with the number of slots. Both blocks are unchanged.
+pub fn shrink<T, A: Allocator + Clone>(
+    slots: &mut Vec<Slot, A>,
+    values: &mut RawVec<((), T), A>,
+) -> Result<(), TryReserveError>
+    requires held { AreHeld slots.old.items values.old.places }
+    requires within { length slots.old.items ≤ slots.old.capacity }
+    requires places { slots.old.capacity ≤ length values.old.places }
+
+    // The slots and their values are unchanged, each value in its place.
+    ensures slots { slots.new.items ≡ slots.old.items }
+    ensures held { AreHeld slots.new.items values.new.places }
+    ensures values { seen slots.new.items values.new.places
+        ≡ seen slots.old.items values.old.places }
+
+    // There is memory for these slots on success, and as before on an error.
+    ensures places { slots.new.capacity ≤ length values.new.places }
+    ensures capacity { OnOk result (slots.new.capacity ≡ length slots.old.items) }
+    ensures error { IfErr result (λ e. IsErrorFor e (length slots.old.items)) }
+    ensures fits { slots.old.capacity ≡ length slots.old.items → IsOk result }
+    ensures unchanged { OnErr result (slots.new ≡ slots.old) }
+    ensures kept { OnErr result (values.new ≡ values.old) }
+{
+    let len = slots.len();
+    if len == slots.capacity() {
+        return Ok(());
+    }
+    let mut fresh = block_for(values.allocator(), len)?;
+    slots.shrink_to_fit()?;
+    move_all(slots.as_slice(), values, &mut fresh);
+    *values = fresh;
+    Ok(())
+}
+
 /// Returns a copy of the slots, over a clone of the allocator, with capacity for no more.
 pub fn clone_slots<A: Allocator + Clone>(
     slots: &Option<Vec<Slot, A>>,

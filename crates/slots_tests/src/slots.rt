@@ -138,6 +138,45 @@ fn makes_room(map: &mut Small<'_>, additional: usize) -> bool {
     map.reserve(additional).is_ok()
 }
 
+// Returns the error of a shrink whose requests fail after the first `granted` ones.
+fn shrink_error(
+    map: &mut Small<'_>,
+    heap: &Faulty<Global>,
+    granted: u64,
+) -> Option<TryReserveErrorKind> {
+    heap.fail_requests(granted, 1);
+    match map.shrink_to_fit() {
+        Ok(()) => None,
+        Err(error) => Some(error.kind()),
+    }
+}
+
+// Whether a map shrinks to its slots, of which one is free, and is unchanged if it fails.
+fn shrinks_to_its_slots(map: &mut Small<'_>, heap: &Faulty<Global>) -> Option<bool> {
+    let reserved = makes_room(map, 8);
+    let first = put(map, 1)?;
+    let second = put(map, 2)?;
+    let third = put(map, 3)?;
+    let removed = taken(map, second) == Some(2);
+    let kind = Some(TryReserveErrorKind::AllocError { capacity: 3 });
+    let failed = shrink_error(map, heap, 0) == kind && shrink_error(map, heap, 1) == kind;
+    let unchanged = map.capacity() == 8;
+    heap.fail_requests(0, 0);
+    let shrunk = map.shrink_to_fit().is_ok() && map.capacity() == 3;
+    let again = shrink_error(map, heap, 0).is_none() && put(map, 4)?.data() > second.data();
+    let kept = finds(map, first, Some(1)) && finds(map, second, None) && finds(map, third, Some(3));
+    Some(reserved && removed && failed && unchanged && shrunk && again && kept)
+}
+
+#[test]
+fn a_map_shrinks_to_its_slots(rt: HostRuntime) {
+    let heap = Faulty::new(rt.alloc());
+    let mut map: Small<'_> = SlotMap::new_in(&heap);
+    assert!(rt; map.shrink_to_fit().is_ok() && heap.requests() == 0);
+    assert!(rt; shrinks_to_its_slots(&mut map, &heap) == Some(true));
+    assert!(rt; map.len() == 3 && map.capacity() == 3);
+}
+
 // Inserts a value, and removes it again unless it is one of the first two. Returns whether this
 // succeeds.
 fn insert_and_remove(map: &mut Small<'_>, value: u32) -> bool {

@@ -1,5 +1,5 @@
 //! The capacity of a slot map.
-ghost use Rattle.std.specs.Prelude.{◌≡◌, ◌+◌, ◌-◌, [], IfErr, IfOk, IsOk, OnErr, OnOk};
+ghost use Rattle.std.specs.Prelude.{◌≡◌, ◌+◌, ◌-◌, [], length, IfErr, IfOk, IsOk, OnErr, OnOk};
 ghost use Rattle.allocator_api2.specs.Errors.{IsErrorFor};
 ghost use Rattle.aa_slots.specs.Slotted.{count, with_room, HasRoom};
 
@@ -70,6 +70,27 @@ impl<T: Drop, A: Allocator + Clone, K> SlotMap<T, A, K> {
         match self.len().checked_add(additional) {
             Some(capacity) => blocks::reserve(&mut self.slots, &mut self.values, capacity),
             None => Err(TryReserveErrorKind::CapacityOverflow.into()),
+        }
+    }
+
+    /// Shrinks the capacity to the number of slots, free ones included.
+    ///
+    /// Free slots are kept, since each value stays in the slot of its key. Allocates unless the
+    /// capacity is that number already.
+    ///
+    /// # Errors
+    /// `AllocError` with the number of slots, also if a clone of the allocator fails. The map is
+    /// unchanged.
+    pub fn shrink_to_fit(&mut self) -> Result<(), TryReserveError>
+        ensures shrunk { OnOk result
+            (self.new ≡ record self.old { capacity = length self.old.slots }) }
+        ensures fits { self.old.capacity ≡ length self.old.slots → IsOk result }
+        ensures error { IfErr result (λ e. IsErrorFor e (length self.old.slots)) }
+        ensures unchanged { OnErr result (self.new ≡ self.old) }
+    {
+        match &mut self.slots {
+            Some(slots) => blocks::shrink(slots, &mut self.values),
+            None => Ok(()),
         }
     }
 }
