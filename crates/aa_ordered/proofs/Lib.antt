@@ -1,5 +1,6 @@
 pub mod Arena
 pub mod Order
+pub mod Stepping
 pub mod Found
 pub mod Balance
 pub mod Fitting
