@@ -51,8 +51,9 @@ impl Held {
     /// Fills the collection as the case finds it, and returns whether there is such a case.
     pub fn prepare(&mut self, case: &str, count: u32) -> bool {
         match case {
-            "table_insert" | "map_insert" => fill_keys(&mut self.keys, count, 0),
-            "table_hit" | "table_remove" => self.fill_table(count),
+            "table_insert" | "table_reserved" | "map_insert" => fill_keys(&mut self.keys, count, 0),
+            "table_hit" | "table_remove" | "table_iter" => self.fill_table(count),
+            "table_iter_sparse" => self.fill_sparse(count),
             "table_miss" => {
                 self.fill_table(count);
                 self.keys.clear();
@@ -75,6 +76,16 @@ impl Held {
         table_insert(&mut self.table, &self.keys);
     }
 
+    // Fills the table, and removes nine of each ten keys in a row.
+    fn fill_sparse(&mut self, count: u32) {
+        self.fill_table(count);
+        for (at, key) in self.keys.iter().enumerate() {
+            if at % 10 != 0 {
+                self.table.remove(key);
+            }
+        }
+    }
+
     /// Runs the case.
     pub fn run(&mut self, case: &str, count: u32) {
         match case {
@@ -82,6 +93,9 @@ impl Held {
             "table_hit" => self.sum = table_hit(&self.table, &self.keys),
             "table_miss" => self.sum = table_miss(&self.table, &self.keys),
             "table_remove" => self.sum = table_remove(&mut self.table, &self.keys),
+            "table_reserved" => table_reserved(&mut self.table, &self.keys),
+            "table_iter" => self.sum = table_iter(&self.table),
+            "table_iter_sparse" => self.sum = table_iter_sparse(&self.table),
             "map_insert" => map_insert(&mut self.map, &self.keys),
             "map_get" => self.sum = map_get(&self.map, &self.keys),
             "map_remove" => self.sum = map_remove(&mut self.map, &self.keys),
@@ -151,6 +165,33 @@ fn table_remove(table: &mut Numbers, keys: &[u64]) -> u64 {
         if let Some(value) = table.remove(key) {
             sum = sum.wrapping_add(value);
         }
+    }
+    sum
+}
+
+#[inline(never)]
+fn table_reserved(table: &mut Numbers, keys: &[u64]) {
+    table.reserve(keys.len());
+    for key in keys {
+        table.insert(*key, *key >> 1);
+    }
+}
+
+#[inline(never)]
+fn table_iter(table: &Numbers) -> u64 {
+    let mut sum: u64 = 0;
+    for (_, value) in table.iter() {
+        sum = sum.wrapping_add(*value);
+    }
+    sum
+}
+
+// Adds up the keys, and not the values, so that the compiler does not join it with `table_iter`.
+#[inline(never)]
+fn table_iter_sparse(table: &Numbers) -> u64 {
+    let mut sum: u64 = 0;
+    for (key, _) in table.iter() {
+        sum = sum.wrapping_add(*key);
     }
     sum
 }

@@ -9,7 +9,7 @@ use Rattle.benchcases.specs.declared.case.Choice.TheVariants.{RetainHalf, Retain
 use Rattle.benchcases.specs.declared.case.Pieces.{Pieces}
 use Rattle.benchcases.specs.declared.case.Pieces.TheVariants.{OfFour, OfTwenty, Mixed, Written}
 use Rattle.benchcases.specs.declared.case.Collection.{Collection}
-use Rattle.benchcases.specs.declared.case.Collection.TheVariants.{TableInsert, TableHit, TableMiss, TableRemove, MapInsert, MapGet, MapRemove, MapScan, RingQueue, RingPush, InlineFew}
+use Rattle.benchcases.specs.declared.case.Collection.TheVariants.{TableInsert, TableHit, TableMiss, TableRemove, TableReserved, TableIter, TableIterSparse, MapInsert, MapGet, MapRemove, MapScan, RingQueue, RingPush, InlineFew}
 use Rattle.benchcases.specs.declared.case.Use.{Use}
 use Rattle.benchcases.specs.declared.case.Use.TheVariants.{Serialise, Tokenize, Lines, Lru, Merge, DedupTexts, TextTable, InsertSorted, Grid, Boxes, Window}
 use Rattle.benchcases.specs.declared.case.Size.{Size}
@@ -49,6 +49,9 @@ name_of_collection TableInsert = codes "table_insert"
 name_of_collection TableHit = codes "table_hit"
 name_of_collection TableMiss = codes "table_miss"
 name_of_collection TableRemove = codes "table_remove"
+name_of_collection TableReserved = codes "table_reserved"
+name_of_collection TableIter = codes "table_iter"
+name_of_collection TableIterSparse = codes "table_iter_sparse"
 name_of_collection MapInsert = codes "map_insert"
 name_of_collection MapGet = codes "map_get"
 name_of_collection MapRemove = codes "map_remove"

@@ -136,6 +136,12 @@ pub enum Collection {
     TableMiss,
     /// Removes each key of a table.
     TableRemove,
+    /// Reserves capacity for keys in an empty table and inserts them.
+    TableReserved,
+    /// Visits each entry of a table.
+    TableIter,
+    /// Visits the entries of a table from which nine of ten keys were removed.
+    TableIterSparse,
     /// Inserts keys into an empty ordered map.
     MapInsert,
     /// Looks up each key of an ordered map.
@@ -337,6 +343,9 @@ fn collection_of(name: &str) -> Option<Collection>
         "table_hit" => Collection::TableHit,
         "table_miss" => Collection::TableMiss,
         "table_remove" => Collection::TableRemove,
+        "table_reserved" => Collection::TableReserved,
+        "table_iter" => Collection::TableIter,
+        "table_iter_sparse" => Collection::TableIterSparse,
         "map_insert" => Collection::MapInsert,
         "map_get" => Collection::MapGet,
         "map_remove" => Collection::MapRemove,

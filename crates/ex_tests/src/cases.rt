@@ -51,6 +51,7 @@ fn a_name_may_have_a_size(rt: HostRuntime) {
         ("dedup_by_key", Case::Chosen(Choice::DedupByKey)),
         ("pieces_of_4", Case::Pieces(Pieces::OfFour)),
         ("table_hit", Case::Held(Collection::TableHit)),
+        ("table_iter", Case::Held(Collection::TableIter)),
         ("map_scan", Case::Held(Collection::MapScan)),
         ("text_table", Case::Used(Use::TextTable)),
     ] {

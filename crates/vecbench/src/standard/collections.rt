@@ -39,8 +39,13 @@ impl Held {
     /// Fills the collection as the case expects it, and returns whether every allocation succeeded.
     pub fn prepare(&mut self, collection: Collection, count: u32) -> bool {
         match collection {
-            Collection::TableInsert | Collection::MapInsert => fill_keys(&mut self.keys, count, 0),
-            Collection::TableHit | Collection::TableRemove => self.fill_table(count),
+            Collection::TableInsert | Collection::TableReserved | Collection::MapInsert => {
+                fill_keys(&mut self.keys, count, 0)
+            }
+            Collection::TableHit | Collection::TableRemove | Collection::TableIter => {
+                self.fill_table(count)
+            }
+            Collection::TableIterSparse => self.fill_sparse(count),
             Collection::TableMiss => {
                 let filled = self.fill_table(count);
                 self.keys.clear();
@@ -60,6 +65,17 @@ impl Held {
         fill_keys(&mut self.keys, count, 0) && table_insert(&mut self.table, self.keys.as_slice())
     }
 
+    // Fills the table, and removes nine of each ten keys in a row.
+    fn fill_sparse(&mut self, count: u32) -> bool {
+        let filled = self.fill_table(count);
+        for (at, key) in self.keys.as_slice().iter().enumerate() {
+            if at % 10 != 0 {
+                self.table.remove(key);
+            }
+        }
+        filled
+    }
+
     /// Runs the case, and returns whether every allocation succeeded.
     pub fn run(&mut self, collection: Collection, count: u32) -> bool {
         let keys = self.keys.as_slice();
@@ -68,6 +84,9 @@ impl Held {
             Collection::TableHit => self.sum = table_hit(&self.table, keys),
             Collection::TableMiss => self.sum = table_miss(&self.table, keys),
             Collection::TableRemove => self.sum = table_remove(&mut self.table, keys),
+            Collection::TableReserved => return table_reserved(&mut self.table, keys),
+            Collection::TableIter => self.sum = table_iter(&self.table),
+            Collection::TableIterSparse => self.sum = table_iter_sparse(&self.table),
             Collection::MapInsert => return map_insert(&mut self.map, keys),
             Collection::MapGet => self.sum = map_get(&self.map, keys),
             Collection::MapRemove => self.sum = map_remove(&mut self.map, keys),
@@ -149,6 +168,31 @@ fn table_remove(table: &mut Numbers, keys: &[u64]) -> u64 {
         if let Some(value) = table.remove(key) {
             sum = sum.wrapping_add(value);
         }
+    }
+    sum
+}
+
+#[inline(never)]
+fn table_reserved(table: &mut Numbers, keys: &[u64]) -> bool {
+    table.reserve(keys.len()).is_ok()
+        && each_is_granted!(key in keys, table.insert(*key, *key >> 1))
+}
+
+#[inline(never)]
+fn table_iter(table: &Numbers) -> u64 {
+    let mut sum: u64 = 0;
+    for (_, value) in table.iter() {
+        sum = sum.wrapping_add(*value);
+    }
+    sum
+}
+
+// Adds up the keys, and not the values, so that the compiler does not join it with `table_iter`.
+#[inline(never)]
+fn table_iter_sparse(table: &Numbers) -> u64 {
+    let mut sum: u64 = 0;
+    for (key, _) in table.iter() {
+        sum = sum.wrapping_add(*key);
     }
     sum
 }
