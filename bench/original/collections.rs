@@ -42,6 +42,7 @@ pub struct Held {
     keys: Vec<u64>,
     table: Numbers,
     map: BTreeMap<u64, u64>,
+    tree: Option<Box<Node>>,
     queue: VecDeque<u32>,
     text: GapBuffer,
     sum: u64,
@@ -51,13 +52,17 @@ impl Held {
     /// Fills the collection as the case finds it, and returns whether there is such a case.
     pub fn prepare(&mut self, case: &str, count: u32) -> bool {
         match case {
-            "table_insert" | "table_reserved" | "map_insert" => fill_keys(&mut self.keys, count, 0),
+            "table_insert" | "table_reserved" | "box_tree" | "map_insert" => fill_keys(&mut self.keys, count, 0),
             "table_hit" | "table_remove" | "table_iter" => self.fill_table(count),
             "table_iter_sparse" => self.fill_sparse(count),
             "table_miss" => {
                 self.fill_table(count);
                 self.keys.clear();
                 fill_keys(&mut self.keys, count, 1 << 32);
+            }
+            "box_tree_find" => {
+                fill_keys(&mut self.keys, count, 0);
+                box_tree(&mut self.tree, &self.keys);
             }
             "map_get" | "map_remove" | "map_scan" => {
                 fill_keys(&mut self.keys, count, 0);
@@ -96,6 +101,8 @@ impl Held {
             "table_reserved" => table_reserved(&mut self.table, &self.keys),
             "table_iter" => self.sum = table_iter(&self.table),
             "table_iter_sparse" => self.sum = table_iter_sparse(&self.table),
+            "box_tree" => box_tree(&mut self.tree, &self.keys),
+            "box_tree_find" => self.sum = box_tree_find(&self.tree, &self.keys),
             "map_insert" => map_insert(&mut self.map, &self.keys),
             "map_get" => self.sum = map_get(&self.map, &self.keys),
             "map_remove" => self.sum = map_remove(&mut self.map, &self.keys),
@@ -117,7 +124,7 @@ impl Held {
             values.wrapping_mul(31).wrapping_add(self.table.get(key).copied().unwrap_or(0))
         });
         let values = self.map.iter().fold(values, |values, (key, value)| values.wrapping_mul(31).wrapping_add(key ^ value));
-        items.wrapping_add(values)
+        tree_checksum(&self.tree, items.wrapping_add(values))
     }
 }
 
@@ -194,6 +201,47 @@ fn table_iter_sparse(table: &Numbers) -> u64 {
         sum = sum.wrapping_add(*key);
     }
     sum
+}
+
+/// A node of a tree that is not balanced: a key between the lesser keys and the others.
+struct Node {
+    key: u64,
+    lesser: Option<Box<Node>>,
+    others: Option<Box<Node>>,
+}
+
+#[inline(never)]
+fn box_tree(tree: &mut Option<Box<Node>>, keys: &[u64]) {
+    for key in keys {
+        let mut place = &mut *tree;
+        while let Some(node) = place {
+            place = if *key < node.key { &mut node.lesser } else { &mut node.others };
+        }
+        *place = Some(Box::new(Node { key: *key, lesser: None, others: None }));
+    }
+}
+
+#[inline(never)]
+fn box_tree_find(tree: &Option<Box<Node>>, keys: &[u64]) -> u64 {
+    let mut found: u64 = 0;
+    for key in keys {
+        let mut rest = tree;
+        while let Some(node) = rest {
+            if *key == node.key {
+                found += 1;
+                break;
+            }
+            rest = if *key < node.key { &node.lesser } else { &node.others };
+        }
+    }
+    found
+}
+
+fn tree_checksum(tree: &Option<Box<Node>>, sum: u64) -> u64 {
+    match tree {
+        Some(node) => tree_checksum(&node.others, tree_checksum(&node.lesser, sum).wrapping_mul(31).wrapping_add(node.key)),
+        None => sum,
+    }
 }
 
 #[inline(never)]

@@ -9,9 +9,9 @@ use Rattle.benchcases.specs.declared.case.Choice.TheVariants.{RetainHalf, Retain
 use Rattle.benchcases.specs.declared.case.Pieces.{Pieces}
 use Rattle.benchcases.specs.declared.case.Pieces.TheVariants.{OfFour, OfTwenty, Mixed, Written}
 use Rattle.benchcases.specs.declared.case.Collection.{Collection}
-use Rattle.benchcases.specs.declared.case.Collection.TheVariants.{TableInsert, TableHit, TableMiss, TableRemove, TableReserved, TableIter, TableIterSparse, MapInsert, MapGet, MapRemove, MapScan, RingQueue, RingPush, InlineFew}
+use Rattle.benchcases.specs.declared.case.Collection.TheVariants.{TableInsert, TableHit, TableMiss, TableRemove, TableReserved, TableIter, TableIterSparse, BoxTree, BoxTreeFind, MapInsert, MapGet, MapRemove, MapScan, RingQueue, RingPush, InlineFew}
 use Rattle.benchcases.specs.declared.case.Use.{Use}
-use Rattle.benchcases.specs.declared.case.Use.TheVariants.{Serialise, Tokenize, Lines, Lru, Merge, DedupTexts, TextTable, InsertSorted, Grid, Boxes, Window}
+use Rattle.benchcases.specs.declared.case.Use.TheVariants.{Serialise, Tokenize, Lines, Lru, Merge, DedupTexts, TextTable, InsertSorted, Grid, Boxes, Rows, Window}
 use Rattle.benchcases.specs.declared.case.Size.{Size}
 use Rattle.benchcases.specs.declared.case.Size.TheVariants.{Four, One, TwentyFour, Zero}
 
@@ -52,6 +52,8 @@ name_of_collection TableRemove = codes "table_remove"
 name_of_collection TableReserved = codes "table_reserved"
 name_of_collection TableIter = codes "table_iter"
 name_of_collection TableIterSparse = codes "table_iter_sparse"
+name_of_collection BoxTree = codes "box_tree"
+name_of_collection BoxTreeFind = codes "box_tree_find"
 name_of_collection MapInsert = codes "map_insert"
 name_of_collection MapGet = codes "map_get"
 name_of_collection MapRemove = codes "map_remove"
@@ -71,6 +73,7 @@ name_of_use TextTable = codes "text_table"
 name_of_use InsertSorted = codes "insert_sorted"
 name_of_use Grid = codes "grid"
 name_of_use Boxes = codes "boxes"
+name_of_use Rows = codes "rows"
 name_of_use Window = codes "window"
 
 abbrev pub name_of : Case → List ℕ

@@ -123,7 +123,8 @@ pub enum Pieces {
     Written,
 }
 
-/// A call on a table or an ordered map from `u64` to `u64`, on a queue or on a small vector.
+/// A call on a table or an ordered map from `u64` to `u64`, on a tree of boxes, on a queue or on a
+/// small vector.
 ///
 /// Keys are in no regular order.
 #[derive(Clone, Copy, PartialEq, Drop)]
@@ -142,6 +143,10 @@ pub enum Collection {
     TableIter,
     /// Visits the entries of a table from which nine of ten keys were removed.
     TableIterSparse,
+    /// Inserts keys into an empty search tree of boxes, which is not balanced.
+    BoxTree,
+    /// Looks up each key of such a tree.
+    BoxTreeFind,
     /// Inserts keys into an empty ordered map.
     MapInsert,
     /// Looks up each key of an ordered map.
@@ -181,6 +186,8 @@ pub enum Use {
     Grid,
     /// Makes a vector of boxes and takes them.
     Boxes,
+    /// Makes a vector of rows of ten numbers, COUNT in all, and swaps each with another.
+    Rows,
     /// Pushes numbers, and removes the first if there are more than a hundred.
     Window,
 }
@@ -346,6 +353,8 @@ fn collection_of(name: &str) -> Option<Collection>
         "table_reserved" => Collection::TableReserved,
         "table_iter" => Collection::TableIter,
         "table_iter_sparse" => Collection::TableIterSparse,
+        "box_tree" => Collection::BoxTree,
+        "box_tree_find" => Collection::BoxTreeFind,
         "map_insert" => Collection::MapInsert,
         "map_get" => Collection::MapGet,
         "map_remove" => Collection::MapRemove,
@@ -374,6 +383,7 @@ fn use_of(name: &str) -> Option<Use>
         "insert_sorted" => Use::InsertSorted,
         "grid" => Use::Grid,
         "boxes" => Use::Boxes,
+        "rows" => Use::Rows,
         "window" => Use::Window,
         _ => return None,
     };

@@ -52,8 +52,10 @@ fn a_name_may_have_a_size(rt: HostRuntime) {
         ("pieces_of_4", Case::Pieces(Pieces::OfFour)),
         ("table_hit", Case::Held(Collection::TableHit)),
         ("table_iter", Case::Held(Collection::TableIter)),
+        ("box_tree_find", Case::Held(Collection::BoxTreeFind)),
         ("map_scan", Case::Held(Collection::MapScan)),
         ("text_table", Case::Used(Use::TextTable)),
+        ("rows", Case::Used(Use::Rows)),
     ] {
         assert!(rt; Case::from_name(name) == Some(case), "{name}");
     }

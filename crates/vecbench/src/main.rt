@@ -202,6 +202,37 @@ macro_rules! boxes_summed {
     }};
 }
 
+macro_rules! rows_built {
+    ($rows:ident, $count:ident, $empty:expr) => {{
+        for i in 0..$count as usize / 10 {
+            let mut row = $empty;
+            for k in 0..10 {
+                if row.push(i ^ k).is_err() {
+                    return false;
+                }
+            }
+            if $rows.push(row).is_err() {
+                return false;
+            }
+        }
+        true
+    }};
+}
+
+// Swaps each row with one in no regular order.
+macro_rules! rows_swapped {
+    ($rows:ident) => {{
+        let mut state: u32 = 1;
+        for i in 0..$rows.len() {
+            state = state.wrapping_mul(1_664_525).wrapping_add(1_013_904_223);
+            let at = (state >> 8) as usize % $rows.len().max(1);
+            if i < $rows.len() && at < $rows.len() {
+                $rows.swap(i, at);
+            }
+        }
+    }};
+}
+
 macro_rules! window_summed {
     ($list:ident, $count:ident) => {{
         let mut sum: usize = 0;

@@ -2,6 +2,7 @@
 ghost use Rattle.std.specs.Prelude.{◌<◌, ◌≤◌};
 
 mod collections;
+mod trees;
 mod users;
 
 use crate::bench::Lists;

@@ -1,10 +1,12 @@
-//! The cases over this repository's table, ordered map, ring and small vector.
+//! The cases over this repository's table, ordered map, box, ring and small vector.
 
 use crate::checksum::checksum_from;
+use crate::ours::trees::{self, Node};
 use aa_inline::inline::InlineVec;
 use aa_ordered::map::OrderedMap;
 use aa_ring::ring::Ring;
 use aa_table::table::Table;
+use allocator_api2::boxed::Box;
 use allocator_api2::vec::Vec;
 use benchcases::case::Collection;
 use std::alloc::Global;
@@ -28,6 +30,7 @@ pub struct Held {
     keys: Vec<u64>,
     table: Numbers,
     map: Sorted,
+    tree: Option<Box<Node>>,
     queue: Queue,
     // The sum of the results of the look-ups or removals, or of the values that were visited.
     sum: u64,
@@ -40,6 +43,7 @@ impl Held {
             keys: Vec::new(alloc),
             table: Table::new_in(alloc),
             map: OrderedMap::new_in(alloc),
+            tree: None,
             queue: Ring::new_in(alloc),
             sum: 0,
         }
@@ -48,7 +52,10 @@ impl Held {
     /// Fills the collection as the case expects it, and returns whether every allocation succeeded.
     pub fn prepare(&mut self, collection: Collection, count: u32) -> bool {
         match collection {
-            Collection::TableInsert | Collection::TableReserved | Collection::MapInsert => {
+            Collection::TableInsert
+            | Collection::TableReserved
+            | Collection::BoxTree
+            | Collection::MapInsert => {
                 fill_keys(&mut self.keys, count, 0)
             }
             Collection::TableHit | Collection::TableRemove | Collection::TableIter => {
@@ -60,6 +67,10 @@ impl Held {
                 self.keys.clear();
                 // Keys of the table are below 2 ^ 32.
                 filled && fill_keys(&mut self.keys, count, 4_294_967_296)
+            }
+            Collection::BoxTreeFind => {
+                fill_keys(&mut self.keys, count, 0)
+                    && box_tree(&mut self.tree, self.alloc, self.keys.as_slice())
             }
             Collection::MapGet | Collection::MapRemove | Collection::MapScan => {
                 fill_keys(&mut self.keys, count, 0)
@@ -96,6 +107,8 @@ impl Held {
             Collection::TableReserved => return table_reserved(&mut self.table, keys),
             Collection::TableIter => self.sum = table_iter(&self.table),
             Collection::TableIterSparse => self.sum = table_iter_sparse(&self.table),
+            Collection::BoxTree => return box_tree(&mut self.tree, self.alloc, keys),
+            Collection::BoxTreeFind => self.sum = box_tree_find(&self.tree, keys),
             Collection::MapInsert => return map_insert(&mut self.map, keys),
             Collection::MapGet => self.sum = map_get(&self.map, keys),
             Collection::MapRemove => self.sum = map_remove(&mut self.map, keys),
@@ -113,7 +126,7 @@ impl Held {
     /// Returns the checksum of the elements and of the results, continuing from `sum`.
     ///
     /// Keys are looked up in the order of the list, since the order of a table is unspecified.
-    /// Entries of the ordered map follow, in its order.
+    /// Entries of the ordered map follow, in its order, and the keys of the tree.
     pub fn checksum(&self, sum: u64) -> u64 {
         let (first, others) = self.queue.as_slices();
         let items = checksum_from(checksum_from(sum, first), others);
@@ -125,7 +138,7 @@ impl Held {
         for (key, value) in self.map.iter() {
             values = values.wrapping_mul(31).wrapping_add(*key ^ *value);
         }
-        items.wrapping_add(values)
+        trees::checksum(&self.tree, items.wrapping_add(values))
     }
 }
 
@@ -204,6 +217,28 @@ fn table_iter_sparse(table: &Numbers) -> u64 {
         sum = sum.wrapping_add(*key);
     }
     sum
+}
+
+#[inline(never)]
+fn box_tree(tree: &mut Option<Box<Node>>, alloc: Global, keys: &[u64]) -> bool {
+    for key in keys {
+        if !trees::insert(tree, alloc, *key) {
+            return false;
+        }
+    }
+    true
+}
+
+// Returns the number of keys that are found.
+#[inline(never)]
+fn box_tree_find(tree: &Option<Box<Node>>, keys: &[u64]) -> u64 {
+    let mut found: u64 = 0;
+    for key in keys {
+        if trees::has(tree, *key) {
+            found = found.wrapping_add(1);
+        }
+    }
+    found
 }
 
 #[inline(never)]

@@ -1,6 +1,7 @@
-//! The cases over the toolchain's own maps, queue and vector.
+//! The cases over the toolchain's own maps, box, queue and vector.
 
 use crate::checksum::checksum_from;
+use crate::standard::trees::{self, Node};
 use benchcases::case::Collection;
 use std::alloc::Global;
 use std::collections::{BTreeMap, HashMap, VecDeque};
@@ -19,6 +20,7 @@ pub struct Held {
     keys: Vec<u64>,
     table: Numbers,
     map: Sorted,
+    tree: Option<Box<Node>>,
     queue: Queue,
     // The sum of the results of the look-ups or removals, or of the values that were visited.
     sum: u64,
@@ -31,6 +33,7 @@ impl Held {
             keys: Vec::new(alloc),
             table: HashMap::new(alloc),
             map: BTreeMap::new(alloc),
+            tree: None,
             queue: VecDeque::new(alloc),
             sum: 0,
         }
@@ -39,7 +42,10 @@ impl Held {
     /// Fills the collection as the case expects it, and returns whether every allocation succeeded.
     pub fn prepare(&mut self, collection: Collection, count: u32) -> bool {
         match collection {
-            Collection::TableInsert | Collection::TableReserved | Collection::MapInsert => {
+            Collection::TableInsert
+            | Collection::TableReserved
+            | Collection::BoxTree
+            | Collection::MapInsert => {
                 fill_keys(&mut self.keys, count, 0)
             }
             Collection::TableHit | Collection::TableRemove | Collection::TableIter => {
@@ -51,6 +57,10 @@ impl Held {
                 self.keys.clear();
                 // Keys of the table are below 2 ^ 32.
                 filled && fill_keys(&mut self.keys, count, 4_294_967_296)
+            }
+            Collection::BoxTreeFind => {
+                fill_keys(&mut self.keys, count, 0)
+                    && box_tree(&mut self.tree, self.alloc, self.keys.as_slice())
             }
             Collection::MapGet | Collection::MapRemove | Collection::MapScan => {
                 fill_keys(&mut self.keys, count, 0)
@@ -87,6 +97,8 @@ impl Held {
             Collection::TableReserved => return table_reserved(&mut self.table, keys),
             Collection::TableIter => self.sum = table_iter(&self.table),
             Collection::TableIterSparse => self.sum = table_iter_sparse(&self.table),
+            Collection::BoxTree => return box_tree(&mut self.tree, self.alloc, keys),
+            Collection::BoxTreeFind => self.sum = box_tree_find(&self.tree, keys),
             Collection::MapInsert => return map_insert(&mut self.map, keys),
             Collection::MapGet => self.sum = map_get(&self.map, keys),
             Collection::MapRemove => self.sum = map_remove(&mut self.map, keys),
@@ -104,7 +116,7 @@ impl Held {
     /// Returns the checksum of the elements and of the results, continuing from `sum`.
     ///
     /// Keys are looked up in the order of the list, since the order of a table is unspecified.
-    /// Entries of the ordered map follow, in its order.
+    /// Entries of the ordered map follow, in its order, and the keys of the tree.
     pub fn checksum(&self, sum: u64) -> u64 {
         let (first, others) = self.queue.as_slices();
         let items = checksum_from(checksum_from(sum, first), others);
@@ -116,7 +128,7 @@ impl Held {
         for (key, value) in self.map.iter() {
             values = values.wrapping_mul(31).wrapping_add(*key ^ *value);
         }
-        items.wrapping_add(values)
+        trees::checksum(&self.tree, items.wrapping_add(values))
     }
 }
 
@@ -195,6 +207,28 @@ fn table_iter_sparse(table: &Numbers) -> u64 {
         sum = sum.wrapping_add(*key);
     }
     sum
+}
+
+#[inline(never)]
+fn box_tree(tree: &mut Option<Box<Node>>, alloc: Global, keys: &[u64]) -> bool {
+    for key in keys {
+        if !trees::insert(tree, alloc, *key) {
+            return false;
+        }
+    }
+    true
+}
+
+// Returns the number of keys that are found.
+#[inline(never)]
+fn box_tree_find(tree: &Option<Box<Node>>, keys: &[u64]) -> u64 {
+    let mut found: u64 = 0;
+    for key in keys {
+        if trees::has(tree, *key) {
+            found = found.wrapping_add(1);
+        }
+    }
+    found
 }
 
 #[inline(never)]

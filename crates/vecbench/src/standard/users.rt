@@ -19,6 +19,7 @@ pub struct Users {
     others: Vec<usize>,
     bytes: Vec<u8>,
     texts: Vec<Vec<u8>>,
+    rows: Vec<Vec<usize>>,
     boxes: Vec<Box<u32>>,
     sum: usize,
 }
@@ -32,6 +33,7 @@ impl Users {
             others: Vec::new(alloc),
             bytes: Vec::new(alloc),
             texts: Vec::new(alloc),
+            rows: Vec::new(alloc),
             boxes: Vec::new(alloc),
             sum: 0,
         }
@@ -60,6 +62,7 @@ impl Users {
             Use::TextTable => return text_table(&mut self.bytes, count),
             Use::InsertSorted => return insert_sorted(numbers, self.others.as_slice()),
             Use::Grid => return grid(numbers, count),
+            Use::Rows => return rows(&mut self.rows, self.alloc, count),
             Use::Lru => lru(numbers, source),
             Use::Boxes => boxes(&mut self.boxes, self.alloc, count),
             Use::Window => window(numbers, count),
@@ -80,6 +83,9 @@ impl Users {
         let mut all = checksum_from(others, self.bytes.as_slice());
         for text in self.texts.as_slice() {
             all = checksum_from(all, text.as_slice());
+        }
+        for row in self.rows.as_slice() {
+            all = checksum_from(all, row.as_slice());
         }
         for number in self.boxes.as_slice() {
             all = checksum_from(all, &[**number]);
@@ -162,6 +168,21 @@ fn grid(list: &mut Vec<usize>, count: u32) -> bool {
 #[inline(never)]
 fn boxes(list: &mut Vec<Box<u32>>, alloc: Global, count: u32) -> Option<usize> {
     boxes_summed!(list, count, |value| Box::new(alloc, value))
+}
+
+#[inline(never)]
+fn rows(rows: &mut Vec<Vec<usize>>, alloc: Global, count: u32) -> bool {
+    let built = build_rows(rows, alloc, count);
+    swap_rows(rows.as_mut_slice());
+    built
+}
+
+fn build_rows(rows: &mut Vec<Vec<usize>>, alloc: Global, count: u32) -> bool {
+    rows_built!(rows, count, Vec::new(alloc))
+}
+
+fn swap_rows(rows: &mut [Vec<usize>]) {
+    rows_swapped!(rows)
 }
 
 #[inline(never)]
