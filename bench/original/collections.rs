@@ -45,6 +45,9 @@ pub struct Held {
     tree: Option<Box<Node>>,
     queue: VecDeque<u32>,
     text: GapBuffer,
+    rows: Vec<Vec<u32>>,
+    slots: Slots,
+    issued: Vec<Key>,
     sum: u64,
 }
 
@@ -52,7 +55,7 @@ impl Held {
     /// Fills the collection as the case finds it, and returns whether there is such a case.
     pub fn prepare(&mut self, case: &str, count: u32) -> bool {
         match case {
-            "table_insert" | "table_reserved" | "box_tree" | "map_insert" => fill_keys(&mut self.keys, count, 0),
+            "table_insert" | "table_reserved" | "box_tree" | "slots_insert" | "map_insert" => fill_keys(&mut self.keys, count, 0),
             "table_hit" | "table_remove" | "table_iter" => self.fill_table(count),
             "table_iter_sparse" => self.fill_sparse(count),
             "table_miss" => {
@@ -69,7 +72,13 @@ impl Held {
                 map_insert(&mut self.map, &self.keys);
             }
             "ring_queue" => ring_push(&mut self.queue, 100),
-            "ring_push" | "inline_few" => (),
+            "slots_get" | "slots_churn" => {
+                fill_keys(&mut self.keys, count, 0);
+                for value in &self.keys {
+                    self.issued.push(self.slots.insert(*value));
+                }
+            }
+            "ring_push" | "inline_few" | "inline_rows" => (),
             "gap_insert" | "gap_typing" => self.text.fill(count),
             _ => return false,
         }
@@ -111,6 +120,10 @@ impl Held {
             "ring_push" => ring_push(&mut self.queue, count),
             "gap_insert" => gap_insert(&mut self.text),
             "gap_typing" => gap_typing(&mut self.text, count),
+            "inline_rows" => inline_rows(&mut self.rows, count),
+            "slots_insert" => slots_insert(&mut self.slots, &self.keys),
+            "slots_get" => self.sum = slots_get(&self.slots, &self.issued),
+            "slots_churn" => slots_churn(&mut self.slots, &self.issued),
             _ => self.sum = u64::from(inline_few(count)),
         }
     }
@@ -124,7 +137,9 @@ impl Held {
             values.wrapping_mul(31).wrapping_add(self.table.get(key).copied().unwrap_or(0))
         });
         let values = self.map.iter().fold(values, |values, (key, value)| values.wrapping_mul(31).wrapping_add(key ^ value));
-        tree_checksum(&self.tree, items.wrapping_add(values))
+        let tree = tree_checksum(&self.tree, items.wrapping_add(values));
+        let rows = self.rows.iter().fold(tree, |sum, row| checksum_from(sum, row));
+        rows.wrapping_add(self.slots.sum())
     }
 }
 
@@ -315,4 +330,97 @@ fn inline_few(count: u32) -> u32 {
         }
     }
     sum
+}
+
+#[inline(never)]
+fn inline_rows(rows: &mut Vec<Vec<u32>>, count: u32) {
+    for i in 0..count / 8 {
+        let mut few = Vec::new();
+        for k in 0..8 {
+            few.push(i ^ k);
+        }
+        rows.push(few);
+    }
+}
+
+#[derive(Clone, Copy)]
+struct Key {
+    index: usize,
+    serial: u64,
+}
+
+enum Entry {
+    Free(Option<usize>),
+    Held(u64, u64),
+}
+
+/// A slot map in plain Rust. A free slot has the index of the next free one, another one a serial and a number.
+#[derive(Default)]
+struct Slots {
+    entries: Vec<Entry>,
+    first: Option<usize>,
+    issued: u64,
+}
+
+impl Slots {
+    fn insert(&mut self, value: u64) -> Key {
+        let serial = self.issued;
+        self.issued += 1;
+        let entry = Entry::Held(serial, value);
+        let Some(index) = self.first else {
+            self.entries.push(entry);
+            return Key { index: self.entries.len() - 1, serial };
+        };
+        if let Entry::Free(next) = std::mem::replace(&mut self.entries[index], entry) {
+            self.first = next;
+        }
+        Key { index, serial }
+    }
+
+    fn get(&self, key: Key) -> Option<&u64> {
+        match self.entries.get(key.index) {
+            Some(Entry::Held(serial, value)) if *serial == key.serial => Some(value),
+            _ => None,
+        }
+    }
+
+    fn remove(&mut self, key: Key) -> Option<u64> {
+        let value = *self.get(key)?;
+        self.entries[key.index] = Entry::Free(self.first.replace(key.index));
+        Some(value)
+    }
+
+    fn sum(&self) -> u64 {
+        self.entries.iter().fold(0, |sum, entry| match entry {
+            Entry::Held(_, value) => sum.wrapping_add(*value),
+            Entry::Free(_) => sum,
+        })
+    }
+}
+
+#[inline(never)]
+fn slots_insert(slots: &mut Slots, values: &[u64]) {
+    for value in values {
+        slots.insert(*value);
+    }
+}
+
+#[inline(never)]
+fn slots_get(slots: &Slots, issued: &[Key]) -> u64 {
+    let mut sum: u64 = 0;
+    for key in issued {
+        if let Some(value) = slots.get(*key) {
+            sum = sum.wrapping_add(*value);
+        }
+    }
+    sum
+}
+
+#[inline(never)]
+fn slots_churn(slots: &mut Slots, issued: &[Key]) {
+    for key in issued {
+        if let Some(value) = slots.remove(*key) {
+            slots.insert(value >> 1);
+        }
+    }
 }

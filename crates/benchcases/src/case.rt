@@ -123,8 +123,8 @@ pub enum Pieces {
     Written,
 }
 
-/// A call on a table or an ordered map from `u64` to `u64`, on a tree of boxes, on a queue or on a
-/// small vector.
+/// A call on a table or an ordered map from `u64` to `u64`, on a tree of boxes, on a queue, on a
+/// small vector or on a slot map.
 ///
 /// Keys are in no regular order.
 #[derive(Clone, Copy, PartialEq, Drop)]
@@ -161,6 +161,14 @@ pub enum Collection {
     RingPush,
     /// Makes vectors of eight numbers and takes the numbers, COUNT in all.
     InlineFew,
+    /// Makes a vector of such vectors, of COUNT numbers in all.
+    InlineRows,
+    /// Inserts numbers into an empty slot map.
+    SlotsInsert,
+    /// Looks up each key of a slot map.
+    SlotsGet,
+    /// Removes each number of a slot map and inserts another for it.
+    SlotsChurn,
 }
 
 /// A small program that uses vectors.
@@ -362,6 +370,10 @@ fn collection_of(name: &str) -> Option<Collection>
         "ring_queue" => Collection::RingQueue,
         "ring_push" => Collection::RingPush,
         "inline_few" => Collection::InlineFew,
+        "inline_rows" => Collection::InlineRows,
+        "slots_insert" => Collection::SlotsInsert,
+        "slots_get" => Collection::SlotsGet,
+        "slots_churn" => Collection::SlotsChurn,
         _ => return None,
     };
     Some(collection)

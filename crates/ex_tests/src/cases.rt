@@ -54,6 +54,7 @@ fn a_name_may_have_a_size(rt: HostRuntime) {
         ("table_iter", Case::Held(Collection::TableIter)),
         ("box_tree_find", Case::Held(Collection::BoxTreeFind)),
         ("map_scan", Case::Held(Collection::MapScan)),
+        ("slots_churn", Case::Held(Collection::SlotsChurn)),
         ("text_table", Case::Used(Use::TextTable)),
         ("rows", Case::Used(Use::Rows)),
     ] {

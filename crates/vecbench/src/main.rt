@@ -252,6 +252,7 @@ mod bench;
 mod checksum;
 mod element;
 mod ours;
+mod serials;
 mod standard;
 
 use std::process::ExitCode;

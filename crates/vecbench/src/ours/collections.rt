@@ -1,10 +1,11 @@
-//! The cases over this repository's table, ordered map, box, ring and small vector.
+//! The cases over this repository's table, ordered map, box, ring, small vector and slot map.
 
 use crate::checksum::checksum_from;
 use crate::ours::trees::{self, Node};
 use aa_inline::inline::InlineVec;
 use aa_ordered::map::OrderedMap;
 use aa_ring::ring::Ring;
+use aa_slots::map::{Key, SlotMap};
 use aa_table::table::Table;
 use allocator_api2::boxed::Box;
 use allocator_api2::vec::Vec;
@@ -22,6 +23,8 @@ type Queue = Ring<u32, Global>;
 // Up to eight items inline.
 type Few = InlineVec<u32, Global, 8>;
 
+type Slots = SlotMap<u64, Global>;
+
 /// The collections of a case, before and after its run.
 #[derive(Drop)]
 pub struct Held {
@@ -32,6 +35,10 @@ pub struct Held {
     map: Sorted,
     tree: Option<Box<Node>>,
     queue: Queue,
+    rows: Vec<Few>,
+    slots: Slots,
+    // The keys of the slot map, in the order of the inserts.
+    issued: Vec<Key>,
     // The sum of the results of the look-ups or removals, or of the values that were visited.
     sum: u64,
 }
@@ -45,6 +52,9 @@ impl Held {
             map: OrderedMap::new_in(alloc),
             tree: None,
             queue: Ring::new_in(alloc),
+            rows: Vec::new(alloc),
+            slots: SlotMap::new_in(alloc),
+            issued: Vec::new(alloc),
             sum: 0,
         }
     }
@@ -55,9 +65,8 @@ impl Held {
             Collection::TableInsert
             | Collection::TableReserved
             | Collection::BoxTree
-            | Collection::MapInsert => {
-                fill_keys(&mut self.keys, count, 0)
-            }
+            | Collection::SlotsInsert
+            | Collection::MapInsert => { fill_keys(&mut self.keys, count, 0) }
             Collection::TableHit | Collection::TableRemove | Collection::TableIter => {
                 self.fill_table(count)
             }
@@ -77,12 +86,27 @@ impl Held {
                     && map_insert(&mut self.map, self.keys.as_slice())
             }
             Collection::RingQueue => ring_push(&mut self.queue, 100),
-            Collection::RingPush | Collection::InlineFew => true,
+            Collection::SlotsGet | Collection::SlotsChurn => {
+                fill_keys(&mut self.keys, count, 0) && self.fill_slots()
+            }
+            Collection::RingPush | Collection::InlineFew | Collection::InlineRows => true,
         }
     }
 
     fn fill_table(&mut self, count: u32) -> bool {
         fill_keys(&mut self.keys, count, 0) && table_insert(&mut self.table, self.keys.as_slice())
+    }
+
+    fn fill_slots(&mut self) -> bool {
+        for value in self.keys.as_slice() {
+            let Ok(key) = self.slots.insert(*value) else {
+                return false;
+            };
+            if self.issued.push(key).is_err() {
+                return false;
+            }
+        }
+        true
     }
 
     // Fills the table, and removes nine of each ten keys in a row.
@@ -115,6 +139,12 @@ impl Held {
             Collection::MapScan => self.sum = map_scan(&self.map),
             Collection::RingQueue => return ring_queue(&mut self.queue, count),
             Collection::RingPush => return ring_push(&mut self.queue, count),
+            Collection::InlineRows => return inline_rows(&mut self.rows, self.alloc, count),
+            Collection::SlotsInsert => return slots_insert(&mut self.slots, keys),
+            Collection::SlotsGet => self.sum = slots_get(&self.slots, self.issued.as_slice()),
+            Collection::SlotsChurn => {
+                return slots_churn(&mut self.slots, self.issued.as_slice());
+            }
             Collection::InlineFew => match inline_few(self.alloc, count) {
                 Some(sum) => self.sum = sum,
                 None => return false,
@@ -126,7 +156,7 @@ impl Held {
     /// Returns the checksum of the elements and of the results, continuing from `sum`.
     ///
     /// Keys are looked up in the order of the list, since the order of a table is unspecified.
-    /// Entries of the ordered map follow, in its order, and the keys of the tree.
+    /// Entries of the ordered map follow, in its order, then what the other collections hold.
     pub fn checksum(&self, sum: u64) -> u64 {
         let (first, others) = self.queue.as_slices();
         let items = checksum_from(checksum_from(sum, first), others);
@@ -138,7 +168,11 @@ impl Held {
         for (key, value) in self.map.iter() {
             values = values.wrapping_mul(31).wrapping_add(*key ^ *value);
         }
-        trees::checksum(&self.tree, items.wrapping_add(values))
+        let mut all = trees::checksum(&self.tree, items.wrapping_add(values));
+        for row in self.rows.as_slice() {
+            all = checksum_from(all, row.as_slice());
+        }
+        all.wrapping_add(slots_sum(&self.slots))
     }
 }
 
@@ -301,4 +335,57 @@ fn inline_few(alloc: Global, count: u32) -> Option<u64> {
         }
     }
     Some(u64::from(sum))
+}
+
+#[inline(never)]
+fn inline_rows(rows: &mut Vec<Few>, alloc: Global, count: u32) -> bool {
+    for i in 0..count / 8 {
+        let mut few: Few = InlineVec::new_in(alloc);
+        for k in 0..8 {
+            if few.push(i ^ k).is_err() {
+                return false;
+            }
+        }
+        if rows.push(few).is_err() {
+            return false;
+        }
+    }
+    true
+}
+
+#[inline(never)]
+fn slots_insert(slots: &mut Slots, values: &[u64]) -> bool {
+    each_is_granted!(value in values, slots.insert(*value))
+}
+
+#[inline(never)]
+fn slots_get(slots: &Slots, issued: &[Key]) -> u64 {
+    let mut sum: u64 = 0;
+    for key in issued {
+        if let Some(value) = slots.get(*key) {
+            sum = sum.wrapping_add(*value);
+        }
+    }
+    sum
+}
+
+// Inserts half of each number that is removed.
+#[inline(never)]
+fn slots_churn(slots: &mut Slots, issued: &[Key]) -> bool {
+    for key in issued {
+        if let Some(value) = slots.remove(*key) {
+            if slots.insert(value >> 1).is_err() {
+                return false;
+            }
+        }
+    }
+    true
+}
+
+fn slots_sum(slots: &Slots) -> u64 {
+    let mut sum: u64 = 0;
+    for value in slots.values() {
+        sum = sum.wrapping_add(*value);
+    }
+    sum
 }

@@ -1,6 +1,7 @@
-//! The cases over the toolchain's own maps, box, queue and vector.
+//! The cases over the toolchain's own maps, box, queue and vector, and a slot map in plain code.
 
 use crate::checksum::checksum_from;
+use crate::serials::{Key, SlotMap};
 use crate::standard::trees::{self, Node};
 use benchcases::case::Collection;
 use std::alloc::Global;
@@ -12,6 +13,11 @@ type Sorted = BTreeMap<u64, u64>;
 
 type Queue = VecDeque<u32>;
 
+type Few = Vec<u32>;
+
+// In plain code.
+type Slots = SlotMap;
+
 /// The collections of a case, before and after its run.
 #[derive(Drop)]
 pub struct Held {
@@ -22,6 +28,10 @@ pub struct Held {
     map: Sorted,
     tree: Option<Box<Node>>,
     queue: Queue,
+    rows: Vec<Few>,
+    slots: Slots,
+    // The keys of the slot map, in the order of the inserts.
+    issued: Vec<Key>,
     // The sum of the results of the look-ups or removals, or of the values that were visited.
     sum: u64,
 }
@@ -35,6 +45,9 @@ impl Held {
             map: BTreeMap::new(alloc),
             tree: None,
             queue: VecDeque::new(alloc),
+            rows: Vec::new(alloc),
+            slots: SlotMap::new_in(alloc),
+            issued: Vec::new(alloc),
             sum: 0,
         }
     }
@@ -45,9 +58,8 @@ impl Held {
             Collection::TableInsert
             | Collection::TableReserved
             | Collection::BoxTree
-            | Collection::MapInsert => {
-                fill_keys(&mut self.keys, count, 0)
-            }
+            | Collection::SlotsInsert
+            | Collection::MapInsert => { fill_keys(&mut self.keys, count, 0) }
             Collection::TableHit | Collection::TableRemove | Collection::TableIter => {
                 self.fill_table(count)
             }
@@ -67,12 +79,27 @@ impl Held {
                     && map_insert(&mut self.map, self.keys.as_slice())
             }
             Collection::RingQueue => ring_push(&mut self.queue, 100),
-            Collection::RingPush | Collection::InlineFew => true,
+            Collection::SlotsGet | Collection::SlotsChurn => {
+                fill_keys(&mut self.keys, count, 0) && self.fill_slots()
+            }
+            Collection::RingPush | Collection::InlineFew | Collection::InlineRows => true,
         }
     }
 
     fn fill_table(&mut self, count: u32) -> bool {
         fill_keys(&mut self.keys, count, 0) && table_insert(&mut self.table, self.keys.as_slice())
+    }
+
+    fn fill_slots(&mut self) -> bool {
+        for value in self.keys.as_slice() {
+            let Ok(key) = self.slots.insert(*value) else {
+                return false;
+            };
+            if self.issued.push(key).is_err() {
+                return false;
+            }
+        }
+        true
     }
 
     // Fills the table, and removes nine of each ten keys in a row.
@@ -105,6 +132,12 @@ impl Held {
             Collection::MapScan => self.sum = map_scan(&self.map),
             Collection::RingQueue => return ring_queue(&mut self.queue, count),
             Collection::RingPush => return ring_push(&mut self.queue, count),
+            Collection::InlineRows => return inline_rows(&mut self.rows, self.alloc, count),
+            Collection::SlotsInsert => return slots_insert(&mut self.slots, keys),
+            Collection::SlotsGet => self.sum = slots_get(&self.slots, self.issued.as_slice()),
+            Collection::SlotsChurn => {
+                return slots_churn(&mut self.slots, self.issued.as_slice());
+            }
             Collection::InlineFew => match inline_few(self.alloc, count) {
                 Some(sum) => self.sum = sum,
                 None => return false,
@@ -116,7 +149,7 @@ impl Held {
     /// Returns the checksum of the elements and of the results, continuing from `sum`.
     ///
     /// Keys are looked up in the order of the list, since the order of a table is unspecified.
-    /// Entries of the ordered map follow, in its order, and the keys of the tree.
+    /// Entries of the ordered map follow, in its order, then what the other collections hold.
     pub fn checksum(&self, sum: u64) -> u64 {
         let (first, others) = self.queue.as_slices();
         let items = checksum_from(checksum_from(sum, first), others);
@@ -128,7 +161,11 @@ impl Held {
         for (key, value) in self.map.iter() {
             values = values.wrapping_mul(31).wrapping_add(*key ^ *value);
         }
-        trees::checksum(&self.tree, items.wrapping_add(values))
+        let mut all = trees::checksum(&self.tree, items.wrapping_add(values));
+        for row in self.rows.as_slice() {
+            all = checksum_from(all, row.as_slice());
+        }
+        all.wrapping_add(slots_sum(&self.slots))
     }
 }
 
@@ -291,4 +328,53 @@ fn inline_few(alloc: Global, count: u32) -> Option<u64> {
         }
     }
     Some(u64::from(sum))
+}
+
+#[inline(never)]
+fn inline_rows(rows: &mut Vec<Few>, alloc: Global, count: u32) -> bool {
+    for i in 0..count / 8 {
+        let mut few: Few = Vec::new(alloc);
+        for k in 0..8 {
+            if few.push(i ^ k).is_err() {
+                return false;
+            }
+        }
+        if rows.push(few).is_err() {
+            return false;
+        }
+    }
+    true
+}
+
+#[inline(never)]
+fn slots_insert(slots: &mut Slots, values: &[u64]) -> bool {
+    each_is_granted!(value in values, slots.insert(*value))
+}
+
+#[inline(never)]
+fn slots_get(slots: &Slots, issued: &[Key]) -> u64 {
+    let mut sum: u64 = 0;
+    for key in issued {
+        if let Some(value) = slots.get(*key) {
+            sum = sum.wrapping_add(*value);
+        }
+    }
+    sum
+}
+
+// Inserts half of each number that is removed.
+#[inline(never)]
+fn slots_churn(slots: &mut Slots, issued: &[Key]) -> bool {
+    for key in issued {
+        if let Some(value) = slots.remove(*key) {
+            if slots.insert(value >> 1).is_err() {
+                return false;
+            }
+        }
+    }
+    true
+}
+
+fn slots_sum(slots: &Slots) -> u64 {
+    slots.sum()
 }
