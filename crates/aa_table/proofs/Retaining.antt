@@ -38,12 +38,12 @@ module _ {K V : Type 0} (h : K → ℕ) where
   same-hashes (Some z ∷ cs) zero x y at same = ap (λ k. Some (h k) ∷ hashes_of h cs) (grind (arith, at, same))
   same-hashes (c ∷ cs) (suc s) x y at same = ap (λ hs. option_map (λ (e : K × V). h e.0) c ∷ hs) (same-hashes cs s x y at same)
 
-module _ {K V F : Type 0} (step : F → Bor K → MutBor V → Bool → MutBor V → F → Type 0) where
+module _ {K V F : Type 0} (Calls : F → K × V → Bool → V → F → Type 0) where
   -- the places `cs` are `kept` after `f` was called for each in order, and is `g` then
   abbrev pub Keeps : (f : F) → (cs kept : List (Option (K × V))) → (g : F) → Type 0
   Keeps f [] kept g = (kept ≡ []) × (g ≡ f)
   Keeps f (o ∷ cs) kept g =
-      (p : Option (K × V)) × (next : F) × Visits step f o p next
+      (p : Option (K × V)) × (next : F) × Visits Calls f o p next
       × (others : List (Option (K × V))) × (kept ≡ p ∷ others) × Keeps next cs others g
 
   keeps-none : (f : F) (cs : List (Option (K × V))) → ((s : ℕ) → get_or cs s None ≡ None) → Keeps f cs cs f
@@ -52,11 +52,11 @@ module _ {K V F : Type 0} (step : F → Bor K → MutBor V → Bool → MutBor V
   keeps-none f (Some e ∷ cs) h = absurd (let x = h zero in cc)
 
   -- the entries in these places
-  pub retains : (f : F) (cs kept : List (Option (K × V))) (g : F) → Keeps f cs kept g → Retains step f (somes cs) (somes kept) g
+  pub retains : (f : F) (cs kept : List (Option (K × V))) (g : F) → Keeps f cs kept g → Retains Calls f (somes cs) (somes kept) g
   retains f [] kept g (e, same) = (ap somes e, same)
   retains f (None ∷ cs) kept g (p, next, (none, same), others, e, rest) =
       let is : somes kept ≡ somes others = ap somes (e ∙ ap (λ o. o ∷ others) none) in
-      rw is (subst (λ h. Retains step h (somes cs) (somes others) g) same (retains next cs others g rest))
+      rw is (subst (λ h. Retains Calls h (somes cs) (somes others) g) same (retains next cs others g rest))
   retains f (Some x ∷ cs) kept g (p, next, (keep, y, call, left), others, e, rest) =
       (keep, y, next, call, somes others, ap somes (e ∙ ap (λ o. o ∷ others) left) ∙ by keep, retains next cs others g rest)
     where
@@ -75,7 +75,7 @@ module _ {K V F : Type 0} (step : F → Bor K → MutBor V → Bool → MutBor V
 
   module _ (first : F) (old now : List (Option (K × V))) (f : F) (i : ℕ) (inv : IsPassed first old f now i) where
     -- one place more
-    pub passed-one : i < length now → (p : Option (K × V)) (g : F) → Visits step f (get_or now i None) p g → IsPassed first old g (slice_set now i p) (i + 1)
+    pub passed-one : i < length now → (p : Option (K × V)) (g : F) → Visits Calls f (get_or now i None) p g → IsPassed first old g (slice_set now i p) (i + 1)
     passed-one within p g v =
         let head : drop i old ≡ get_or now i None ∷ drop (i + 1) now = sym inv.1 ∙ drop_more now i None within in
         let b = drop_more old i None (omega (arith, inv.0, within)) in
@@ -89,14 +89,14 @@ module _ {K V F : Type 0} (step : F → Bor K → MutBor V → Bool → MutBor V
         )
 
     -- past the last entry
-    pub passed-all : ((s : ℕ) → get_or (drop i now) s None ≡ None) → Retains step first (somes old) (somes now) f
+    pub passed-all : ((s : ℕ) → get_or (drop i now) s None ≡ None) → Retains Calls first (somes old) (somes now) f
     passed-all none =
         let whole : take i now ++ drop i now ≡ now = take-append-drop i now in
         retains first old now f (rw whole at (inv.2 (drop i now) f (rw (sym inv.1) (keeps-none f (drop i now) none))))
 
 -- no key is there more often than before
-module _ {K V F : Type 0} (step : F → Bor K → MutBor V → Bool → MutBor V → F → Type 0) (eq : K → K → Bool) where
-  fewer : (f : F) (es kept : List (K × V)) (g : F) → Retains step f es kept g → (q : K) → keys_like eq q kept ≤ keys_like eq q es
+module _ {K V F : Type 0} (Calls : F → K × V → Bool → V → F → Type 0) (eq : K → K → Bool) where
+  fewer : (f : F) (es kept : List (K × V)) (g : F) → Retains Calls f es kept g → (q : K) → keys_like eq q kept ≤ keys_like eq q es
   fewer f [] kept g (e, same) q = rw e (omega arith)
   fewer f (x ∷ es) kept g (keep, y, next, call, others, e, rest) q = by keep e (fewer next es others g rest q)
     where
@@ -104,7 +104,7 @@ module _ {K V F : Type 0} (step : F → Bor K → MutBor V → Bool → MutBor V
       by true e h = rw e (omega (arith, h, keys-cons eq q x es, keys-cons eq q (x.0, y) others))
       by false e h = rw e (omega (arith, h, keys-cons eq q x es))
 
-  pub still-map : (f : F) (es kept : List (K × V)) (g : F) → Retains step f es kept g → IsMap eq es → IsMap eq kept
+  pub still-map : (f : F) (es kept : List (K × V)) (g : F) → Retains Calls f es kept g → IsMap eq es → IsMap eq kept
   still-map f es kept g r m q = omega (arith, m q, fewer f es kept g r q)
 
 pub ruleset passing = (passed-none)

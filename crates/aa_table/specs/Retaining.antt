@@ -14,12 +14,15 @@ module _ {K V F : Type 0} (step : F → Bor K → MutBor V → Bool → MutBor V
     pub left : after.now ≡ y
     pub call : step f key before keep after g
 
+-- `Calls f e keep y g`: a call of `f` for the entry `e` may return `keep`, with `y` as the value and
+-- the closure as `g` then
+module _ {K V F : Type 0} (Calls : F → K × V → Bool → V → F → Type 0) where
   -- `f` was called for each of the entries, in order, and is `g` then; an entry for which it
   -- returned `true` is in `kept`, with the value as the call left it
   abbrev pub Retains : (f : F) → (es kept : List (K × V)) → (g : F) → Type 0
   Retains f [] kept g = (kept ≡ []) × (g ≡ f)
   Retains f (e ∷ es) kept g =
-      (keep : Bool) × (y : V) × (next : F) × MayReturn f e keep y next
+      (keep : Bool) × (y : V) × (next : F) × Calls f e keep y next
       × (others : List (K × V)) × (kept ≡ (if keep then (e.0, y) ∷ others else others))
       × Retains next es others g
 
@@ -27,4 +30,4 @@ module _ {K V F : Type 0} (step : F → Bor K → MutBor V → Bool → MutBor V
   abbrev pub Visits : (f : F) → (o p : Option (K × V)) → (g : F) → Type 0
   Visits f None p g = (p ≡ None) × (g ≡ f)
   Visits f (Some e) p g =
-      (keep : Bool) × (y : V) × MayReturn f e keep y g × (p ≡ (if keep then Some (e.0, y) else None))
+      (keep : Bool) × (y : V) × Calls f e keep y g × (p ≡ (if keep then Some (e.0, y) else None))

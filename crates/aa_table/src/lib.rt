@@ -11,6 +11,7 @@ mod index;
 pub mod into_parts;
 pub mod iter;
 pub mod iter_mut;
+mod keeper;
 pub mod set;
 mod slots;
 pub mod table;

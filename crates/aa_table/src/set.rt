@@ -1,6 +1,8 @@
 //! A hash set over any allocator that can be cloned: a table whose keys have no values.
-ghost use Rattle.std.specs.Prelude.{◌≡◌, ◌-◌, ◌+◌, ◌<◌, ◌≤◌, [], ◌∷◌, IfOk, IfErr, OnOk, OnErr, IsOk, IsSome, IsTrue, None, option_copied, true, false, not, min, max, find, length, ◌==◌, is_some, IsPermutation};
+ghost use Rattle.std.specs.Prelude.{◌≡◌, ◌-◌, ◌+◌, ◌<◌, ◌≤◌, [], ◌∷◌, IfOk, IfErr, OnOk, OnErr, IsOk, IsSome, IsTrue, Bool, None, option_copied, true, false, not, min, max, filter, find, length, ◌==◌, is_some, IsPermutation};
+ghost use Rattle.std.specs.Fn.{CalledAt};
 ghost use Rattle.std.specs.List.{list_all};
+ghost use Rattle.std.specs.List.Retain.{IsFiltered};
 ghost use Rattle.std.specs.Set.{is_member, remove_key, swap_key};
 ghost use Rattle.allocator_api2.specs.declared.collections.TryReserveErrorKind.TheVariants.{AllocError, CapacityOverflow};
 ghost use Rattle.aa_table.specs.Full.{LacksRoom};
@@ -9,6 +11,7 @@ ghost use Rattle.aa_table.specs.SetContents.{set_capacity_for, AreDistinct, SetH
 
 use crate::into_parts::IntoKeys;
 use crate::iter::Keys;
+use crate::keeper::OnKey;
 use crate::table::Table;
 use allocator_api2::collections::{Refused, TryReserveError};
 use std::alloc::{Allocator, Global};
@@ -380,6 +383,22 @@ impl<T: Eq + Hash + Drop, S: BuildHasher, A: Allocator> Set<T, S, A> {
         } }
     {
         self.table.clear();
+    }
+
+    /// Keeps only the elements for which `f` returns `true`.
+    ///
+    /// `f` is called once for each element, in the order of `iter`. The others are dropped.
+    /// Preserves the order. Does not allocate, and does not change the capacity.
+    pub fn retain<F: FnMut(&T) -> bool + Drop>(&mut self, f: F)
+        requires { F.IsAlwaysCallable f }
+        ensures kept { IsFiltered (CalledAt F.FnMut) f self.old.elements self.new.elements }
+        ensures pure_test { (test : T → Bool) → ((x : T) (res : Bool) (g : F)
+            → CalledAt F.FnMut f x res g → (res ≡ test x) × (g ≡ f))
+            → self.new.elements ≡ filter test self.old.elements }
+        ensures capacity { self.new.capacity ≡ self.old.capacity }
+        ensures builder { self.new.builder ≡ self.old.builder }
+    {
+        self.table.retain_by(&mut OnKey { keep: f });
     }
 }
 

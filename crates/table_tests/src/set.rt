@@ -167,3 +167,17 @@ fn a_set_that_cannot_grow_keeps_its_elements(rt: HostRuntime) {
     assert!(rt; replaced(&mut set, 20) == Some((20, kind)) && replaced(&mut set, 13) == None);
     assert!(rt; set.len() == 14 && set.contains(&13) && !set.contains(&20));
 }
+
+#[test]
+fn elements_that_a_closure_keeps_remain(rt: HostRuntime) {
+    let heap = Faulty::new(rt.alloc());
+    let mut set = none(&heap);
+    assert!(rt; takes(&mut set, 0..100));
+    let mut calls = 0u64;
+    set.retain(|value| {
+        calls = calls.wrapping_add(1);
+        *value & 3 == 0
+    });
+    assert!(rt; calls == 100 && set.len() == 25 && set.capacity() == 112);
+    assert!(rt; set.contains(&4) && !set.contains(&5) && heap.requests() == 12);
+}

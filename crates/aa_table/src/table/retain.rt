@@ -7,20 +7,21 @@ ghost use Rattle.aa_table.specs.Slots.{IsIndex, tag_at};
 
 use super::Table;
 use crate::index::{HashIndex, hash_of, take_out};
+use crate::keeper::{Keeper, OnEntry};
 use crate::slots::is_free;
 use allocator_api2::raw_vec::RawVec;
 use std::alloc::Allocator;
 use std::hash::{BuildHasher, Hash};
 
-// Calls `f` for an entry.
+// Calls `keeper` for an entry.
 #[inline(always)]
-fn call_for<K, V, F: FnMut(&K, &mut V) -> bool>(f: &mut F, entry: &mut (K, V)) -> bool
-    requires { F.IsAlwaysCallable f.old }
-    ensures callable { F.IsAlwaysCallable f.new }
-    ensures called { MayReturn F.step f.old entry.old result entry.new.1 f.new }
+fn call_for<K, V, P: Keeper<K, V>>(keeper: &mut P, entry: &mut (K, V)) -> bool
+    requires { P.is_callable keeper.old }
+    ensures callable { P.is_callable keeper.new }
+    ensures called { P.calls keeper.old entry.old result entry.new.1 keeper.new }
     ensures same { entry.new.0 ≡ entry.old.0 }
 {
-    f(&entry.0, &mut entry.1)
+    keeper.keeps(&entry.0, &mut entry.1)
 }
 
 // Removes and drops the entry in a slot.
@@ -47,26 +48,26 @@ fn discard<K: Eq + Hash + Drop, V: Drop, S: BuildHasher, A: Allocator>(
     drop(take_out(index, places, hash, slot));
 }
 
-// Calls `f` for the entry in a slot, if there is one, and removes and drops it if `f` returns
-// `false`. Returns the number of removed entries.
+// Calls `keeper` for the entry in a slot, if there is one, and removes and drops it if `keeper`
+// returns `false`. Returns the number of removed entries.
 #[inline(always)]
-fn visit<K: Eq + Hash + Drop, V: Drop, S: BuildHasher, A: Allocator, F: FnMut(&K, &mut V) -> bool>(
+fn visit<K: Eq + Hash + Drop, V: Drop, S: BuildHasher, A: Allocator, P: Keeper<K, V>>(
     builder: &S,
     index: &mut HashIndex<A>,
     places: &mut RawVec<(K, V), A>,
     slot: usize,
-    f: &mut F,
+    keeper: &mut P,
 ) -> usize
-    requires callable { F.IsAlwaysCallable f.old }
+    requires callable { P.is_callable keeper.old }
     requires within { slot < length index.old.tags.items }
     requires index { IsIndex index.old.tags.items index.old.overflows.items
         (hashes_of (hashes S.BuildHasher S.Hasher.Hasher K.hash_input builder.now)
         places.old.places) }
 
     // Only this place is changed.
-    ensures callable { F.IsAlwaysCallable f.new }
-    ensures visited { Visits F.step f.old (get_or places.old.places slot None)
-        (get_or places.new.places slot None) f.new }
+    ensures callable { P.is_callable keeper.new }
+    ensures visited { Visits P.calls keeper.old (get_or places.old.places slot None)
+        (get_or places.new.places slot None) keeper.new }
     ensures others { places.new.places
         ≡ slice_set places.old.places slot (get_or places.new.places slot None) }
     ensures count { result + length (somes places.new.places) ≡ length (somes places.old.places) }
@@ -81,31 +82,31 @@ fn visit<K: Eq + Hash + Drop, V: Drop, S: BuildHasher, A: Allocator, F: FnMut(&K
     if is_free(index.tags.as_slice(), slot) {
         return 0;
     }
-    if call_for(f, places.place_mut(slot)) {
+    if call_for(keeper, places.place_mut(slot)) {
         return 0;
     }
     discard(builder, index, places, slot);
     1
 }
 
-// Removes and drops the entries for which `f` returns `false`, and returns their number.
+// Removes and drops the entries for which `keeper` returns `false`, and returns their number.
 //
-// `f` is called once for each entry, in the order of the slots.
+// `keeper` is called once for each entry, in the order of the slots.
 #[tactic(auto, using(crate::proofs::Retaining::passing))]
-fn retain_in<
-    K: Eq + Hash + Drop,
-    V: Drop,
-    S: BuildHasher,
-    A: Allocator,
-    F: FnMut(&K, &mut V) -> bool,
->(builder: &S, index: &mut HashIndex<A>, places: &mut RawVec<(K, V), A>, f: &mut F) -> usize
-    requires callable { F.IsAlwaysCallable f.old }
+fn retain_in<K: Eq + Hash + Drop, V: Drop, S: BuildHasher, A: Allocator, P: Keeper<K, V>>(
+    builder: &S,
+    index: &mut HashIndex<A>,
+    places: &mut RawVec<(K, V), A>,
+    keeper: &mut P,
+) -> usize
+    requires callable { P.is_callable keeper.old }
     requires index { IsIndex index.old.tags.items index.old.overflows.items
         (hashes_of (hashes S.BuildHasher S.Hasher.Hasher K.hash_input builder.now)
         places.old.places) }
 
     // The other entries are as the calls left them, in the same places, and are indexed.
-    ensures kept { Retains F.step f.old (somes places.old.places) (somes places.new.places) f.new }
+    ensures kept { Retains P.calls keeper.old (somes places.old.places) (somes places.new.places)
+        keeper.new }
     ensures count { result + length (somes places.new.places) ≡ length (somes places.old.places) }
     ensures places { length places.new.places ≡ length places.old.places }
     ensures slots { length index.new.tags.items ≡ length index.old.tags.items }
@@ -115,24 +116,35 @@ fn retain_in<
 {
     let mut removed = 0;
     'each: for slot in 0..index.tags.len() {
-        removed += visit(builder, index, places, slot, f);
+        removed += visit(builder, index, places, slot, keeper);
     }
     removed
 }
 
 impl<K: Eq + Hash + Drop, V: Drop, S: BuildHasher, A: Allocator> Table<K, V, S, A> {
-    /// Keeps only the keys for which `f` returns `true`, and lets `f` change their values.
-    ///
-    /// `f` is called once for each key with its value, in the order of `iter`. The others are
-    /// dropped. Preserves the order. Does not allocate, and does not change the capacity.
-    pub fn retain<F: FnMut(&K, &mut V) -> bool + Drop>(&mut self, mut f: F)
-        requires { F.IsAlwaysCallable f }
-        ensures kept { (last : F) × Retains F.step f self.old.entries self.new.entries last }
+    // Removes and drops the entries for which `keeper` returns `false`.
+    pub(crate) fn retain_by<P: Keeper<K, V>>(&mut self, keeper: &mut P)
+        requires { P.is_callable keeper.old }
+        ensures kept { Retains P.calls keeper.old self.old.entries self.new.entries keeper.new }
         ensures capacity { self.new.capacity ≡ self.old.capacity }
         ensures builder { self.new.builder ≡ self.old.builder }
     {
         if let Some(index) = &mut self.index {
-            self.count -= retain_in(&self.builder, index, &mut self.places, &mut f);
+            self.count -= retain_in(&self.builder, index, &mut self.places, keeper);
         }
+    }
+
+    /// Keeps only the keys for which `f` returns `true`, and lets `f` change their values.
+    ///
+    /// `f` is called once for each key with its value, in the order of `iter`. The others are
+    /// dropped. Preserves the order. Does not allocate, and does not change the capacity.
+    pub fn retain<F: FnMut(&K, &mut V) -> bool + Drop>(&mut self, f: F)
+        requires { F.IsAlwaysCallable f }
+        ensures kept { (last : F)
+            × Retains (MayReturn F.step) f self.old.entries self.new.entries last }
+        ensures capacity { self.new.capacity ≡ self.old.capacity }
+        ensures builder { self.new.builder ≡ self.old.builder }
+    {
+        self.retain_by(&mut OnEntry { keep: f });
     }
 }
