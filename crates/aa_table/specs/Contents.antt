@@ -89,3 +89,7 @@ module _ {K V S : Type 0} where
 -- the capacity of a new table for `n` keys
 abbrev pub fresh_capacity : (n : ℕ) → ℕ
 fresh_capacity n = if n == 0 then 0 else max n 14
+
+-- the capacity to which a table with `n` keys shrinks if it is to keep capacity for `least` keys
+abbrev pub shrunk_capacity : (n least : ℕ) → ℕ
+shrunk_capacity n least = fresh_capacity (max n least)

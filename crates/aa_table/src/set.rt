@@ -6,7 +6,7 @@ ghost use Rattle.std.specs.List.Retain.{IsFiltered};
 ghost use Rattle.std.specs.Set.{is_member, remove_key, swap_key};
 ghost use Rattle.allocator_api2.specs.declared.collections.TryReserveErrorKind.TheVariants.{AllocError, CapacityOverflow};
 ghost use Rattle.aa_table.specs.Full.{LacksRoom};
-ghost use Rattle.aa_table.specs.Contents.{fresh_capacity, max_keys};
+ghost use Rattle.aa_table.specs.Contents.{fresh_capacity, shrunk_capacity, max_keys};
 ghost use Rattle.aa_table.specs.SetContents.{set_capacity_for, AreDistinct, SetHasRoom};
 
 use crate::into_parts::IntoKeys;
@@ -296,6 +296,41 @@ impl<T: Eq + Hash + Drop, S: BuildHasher, A: Allocator + Clone> Set<T, S, A> {
         ensures unchanged { OnErr result (self.new ≡ self.old) }
     {
         self.table.shrink_to_fit()
+    }
+
+    /// Shrinks the capacity to that of a new set for `min_capacity` elements, or for as many as the
+    /// set has if these are more. Changes nothing if the capacity is not more than that.
+    ///
+    /// A new set for n elements has the capacity n, but at least 14, or 0 if n is 0.
+    /// If the set is empty and `min_capacity` is 0, frees all blocks and does not allocate.
+    /// Otherwise allocates new blocks, which may change the order of the elements, unless they would
+    /// have as many slots as before.
+    ///
+    /// # Errors
+    /// `AllocError` with the requested capacity. The set is unchanged.
+    #[tactic(auto, using(crate::proofs::Elements::elements))]
+    pub fn shrink_to(&mut self, min_capacity: usize) -> Result<(), TryReserveError>
+        // If nothing has to be allocated, it succeeds.
+        ensures empty { max (length self.old.elements) min_capacity ≡ 0 → IsOk result }
+        ensures fits { self.old.capacity ≤ shrunk_capacity (length self.old.elements) min_capacity
+            → IsOk result }
+
+        // On success, the capacity is that of a new set, or the old one if that is less.
+        ensures shrunk { OnOk result (self.new.capacity
+            ≡ min self.old.capacity (shrunk_capacity (length self.old.elements) min_capacity)) }
+        ensures sufficient { self.old.capacity
+            ≤ shrunk_capacity (length self.old.elements) min_capacity → self.new ≡ self.old }
+
+        // The elements and the builder do not change, except for the order.
+        ensures same { IsPermutation self.old.elements self.new.elements }
+        ensures builder { self.new.builder ≡ self.old.builder }
+
+        // An error has the requested capacity, and leaves the set unchanged.
+        ensures error { IfErr result
+            (λ e. e.kind ≡ AllocError (shrunk_capacity (length self.old.elements) min_capacity)) }
+        ensures unchanged { OnErr result (self.new ≡ self.old) }
+    {
+        self.table.shrink_to(min_capacity)
     }
 
     /// Removes the element equal to `value`, and returns `true` if there was one.

@@ -5,7 +5,7 @@ ghost use Rattle.std.specs.Map.{remove_entry, set_value};
 ghost use Rattle.std.specs.Option.{option_copied_mut};
 ghost use Rattle.allocator_api2.specs.declared.collections.TryReserveErrorKind.TheVariants.{AllocError, CapacityOverflow};
 ghost use Rattle.aa_table.specs.Full.{LacksRoom};
-ghost use Rattle.aa_table.specs.Contents.{value, entry_of, keys_like, Sets, IsMap, HasRoom, capacity_for, fresh_capacity, max_keys};
+ghost use Rattle.aa_table.specs.Contents.{value, entry_of, keys_like, Sets, IsMap, HasRoom, capacity_for, fresh_capacity, shrunk_capacity, max_keys};
 ghost use Rattle.aa_table.specs.Places.{hashes};
 
 use crate::growth::{MIN_CAPACITY, drop_between, fit, fresh_capacity, resize};
@@ -554,7 +554,41 @@ impl<K: Eq + Hash + Drop, V: Drop, S: BuildHasher, A: Allocator + Clone> Table<K
             (λ e. e.kind ≡ AllocError (fresh_capacity (length self.old.entries))) }
         ensures unchanged { OnErr result (self.new ≡ self.old) }
     {
-        let requested = fresh_capacity(self.count);
+        self.shrink_to(0)
+    }
+
+    /// Shrinks the capacity to that of a new table for `min_capacity` keys, or for as many as the
+    /// table has if these are more. Changes nothing if the capacity is not more than that.
+    ///
+    /// A new table for n keys has the capacity n, but at least 14, or 0 if n is 0.
+    /// If the table is empty and `min_capacity` is 0, frees all blocks and does not allocate.
+    /// Otherwise allocates new blocks, which may change the order of the keys, unless they would
+    /// have as many slots as before.
+    ///
+    /// # Errors
+    /// `AllocError` with the requested capacity. The table is unchanged.
+    pub fn shrink_to(&mut self, min_capacity: usize) -> Result<(), TryReserveError>
+        // If nothing has to be allocated, it succeeds.
+        ensures empty { max (length self.old.entries) min_capacity ≡ 0 → IsOk result }
+        ensures fits { self.old.capacity ≤ shrunk_capacity (length self.old.entries) min_capacity
+            → IsOk result }
+
+        // On success, the capacity is that of a new table, or the old one if that is less.
+        ensures shrunk { OnOk result (self.new.capacity
+            ≡ min self.old.capacity (shrunk_capacity (length self.old.entries) min_capacity)) }
+        ensures sufficient { self.old.capacity
+            ≤ shrunk_capacity (length self.old.entries) min_capacity → self.new ≡ self.old }
+
+        // The entries and the builder do not change, except for the order.
+        ensures entries { IsPermutation self.old.entries self.new.entries }
+        ensures builder { self.new.builder ≡ self.old.builder }
+
+        // An error has the requested capacity, and leaves the table unchanged.
+        ensures error { IfErr result
+            (λ e. e.kind ≡ AllocError (shrunk_capacity (length self.old.entries) min_capacity)) }
+        ensures unchanged { OnErr result (self.new ≡ self.old) }
+    {
+        let requested = fresh_capacity(self.count.max(min_capacity));
         if self.capacity <= requested {
             return Ok(());
         }

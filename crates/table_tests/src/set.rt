@@ -181,3 +181,15 @@ fn elements_that_a_closure_keeps_remain(rt: HostRuntime) {
     assert!(rt; calls == 100 && set.len() == 25 && set.capacity() == 112);
     assert!(rt; set.contains(&4) && !set.contains(&5) && heap.requests() == 12);
 }
+
+#[test]
+fn a_set_shrinks_to_its_elements_or_a_bound(rt: HostRuntime) {
+    let heap = Faulty::new(rt.alloc());
+    let mut set = none(&heap);
+    assert!(rt; takes(&mut set, 0..100));
+    set.retain(|value| *value < 10);
+    assert!(rt; set.shrink_to(50).is_ok() && (set.len(), set.capacity()) == (10, 50));
+    heap.fail_requests(0, 1);
+    assert!(rt; set.shrink_to(20).is_err() && (set.len(), set.capacity()) == (10, 50));
+    assert!(rt; set.shrink_to_fit().is_ok() && (set.len(), set.capacity()) == (10, 14));
+}

@@ -327,6 +327,33 @@ fn a_shrink_leaves_what_a_new_table_has(rt: HostRuntime) {
     }
 }
 
+// A bound of a shrink of ten keys in a table for a hundred, the capacity and the requests then.
+const BOUNDS: [(usize, usize, u64); 6] = [
+    (0, 14, 3),
+    (10, 14, 3),
+    (20, 20, 3),
+    (100, 100, 0),
+    (112, 112, 0),
+    (1_000, 112, 0),
+];
+
+#[test]
+fn a_shrink_has_a_lower_bound(rt: HostRuntime) {
+    for (bound, capacity, requests) in BOUNDS {
+        let heap = Faulty::new(rt.alloc());
+        let mut table = none(&heap);
+        assert!(rt; takes(&mut table, 0..100));
+        table.retain(|key, _| *key < 10);
+        let before = heap.requests();
+        assert!(rt;
+            table.shrink_to(bound).is_ok() && table.capacity() == capacity,
+            "{bound}"
+        );
+        assert!(rt; heap.requests().wrapping_sub(before) == requests, "{bound}");
+        assert!(rt; table.len() == 10 && has(&table, 9) == Some(9), "{bound}");
+    }
+}
+
 #[test]
 fn a_shrink_that_fails_changes_nothing(rt: HostRuntime) {
     let heap = Faulty::new(rt.alloc());

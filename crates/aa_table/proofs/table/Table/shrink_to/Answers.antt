@@ -1,8 +1,8 @@
-use Rattle.std.proofs.Common.{ap, arith, length, ◌∙◌, ◌≡◌}
+use Rattle.std.proofs.Common.{ap, arith, length, max, ◌∙◌, ◌≡◌}
 use Rattle.std.proofs.lemmas.Bool.Decides.{nat_tests}
-use Rattle.aa_table.specs.Contents.{TableView, fresh_capacity}
+use Rattle.aa_table.specs.Contents.{TableView, fresh_capacity, shrunk_capacity}
 use Rattle.aa_table.proofs.Sound.{moved}
-use Rattle.aa_table.proofs.table.Table.shrink_to_fit.Goals as goal
+use Rattle.aa_table.proofs.table.Table.shrink_to.Goals as goal
 
 pub invariant_of-self-2 : goal.invariant_of-self-2
 invariant_of-self-2 g c =
@@ -12,7 +12,7 @@ invariant_of-self-2 g c =
 pub returns-clause-shrunk : goal.returns-clause-shrunk
 returns-clause-shrunk g c =
     let count = c.self.invariant.counted ∙ ap (λ (f : TableView _ _ _). length f.entries) c.self.view_is in
-    let requested : c.fresh_capacity-requested.result ≡ fresh_capacity (length c.args.self.now.entries) = c.fresh_capacity-requested.ensures ∙ ap fresh_capacity count in
+    let requested : c.fresh_capacity-requested.result ≡ shrunk_capacity (length c.args.self.now.entries) c.args.min_capacity = c.fresh_capacity-requested.ensures ∙ ap fresh_capacity c.max.ensures ∙ ap (λ n. fresh_capacity (max n c.args.min_capacity)) count in
     grind (arith, nat_tests, requested, c.if-self-requested.false, ap (λ (f : TableView _ _ _). f.capacity) c.self.view_is)
 
 pub returns-clause-sufficient : goal.returns-clause-sufficient
