@@ -1,7 +1,6 @@
 -- The places while `retain` passes over them.
 use Rattle.std.proofs.Common.{Bool, false, true, List, None, Option, Some, [], ap, arith, cond, drop, get_or, length, length-set, refl, slice_set, subst, suc, sym, take, zero, ℕ, ◌++◌, ◌+◌, ◌<◌, ◌∙◌, ◌∷◌, ◌≡◌, ◌≤◌}
 use Rattle.std.specs.Option.{option_map}
-use Rattle.std.specs.Borrow.{Bor, MutBor}
 use Rattle.std.proofs.lemmas.List.{append_assoc, drop-set-lt, drop_more, take-append-drop, take_more_set}
 use Rattle.allocator_api2.specs.Places.{somes}
 use Rattle.aa_table.specs.Contents.{keys_like, IsMap}

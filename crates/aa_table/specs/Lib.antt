@@ -13,6 +13,7 @@ pub mod Full
 pub mod Inserting
 pub mod Draining
 pub mod SetContents
+pub mod SetOperators
 pub mod SameElements
 pub mod InsertLends
 pub mod Entry

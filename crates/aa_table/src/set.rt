@@ -21,6 +21,7 @@ use std::marker::Model;
 pub mod algebra;
 pub mod drain;
 mod extend;
+mod operators;
 mod traits;
 
 /// A hash set over any allocator that can be cloned.

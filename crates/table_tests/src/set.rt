@@ -1,6 +1,6 @@
 //! The hash set.
 use aa_table::set::Set;
-use allocator_api2::collections::TryReserveErrorKind;
+use allocator_api2::collections::{TryReserveError, TryReserveErrorKind};
 use std::alloc::{AllocError, Global};
 use std::default::{Emptied, MadeWith};
 use std::hash::{BuildHasherDefault, FoldHasher};
@@ -192,4 +192,35 @@ fn a_set_shrinks_to_its_elements_or_a_bound(rt: HostRuntime) {
     heap.fail_requests(0, 1);
     assert!(rt; set.shrink_to(20).is_err() && (set.len(), set.capacity()) == (10, 50));
     assert!(rt; set.shrink_to_fit().is_ok() && (set.len(), set.capacity()) == (10, 14));
+}
+
+// The sum of the elements of a set that an operator made, their number and the capacity, or the
+// error.
+fn summed(
+    made: Result<Small<'_>, TryReserveError>,
+) -> Result<(u64, usize, usize), TryReserveErrorKind> {
+    let set = match made {
+        Ok(set) => set,
+        Err(error) => return Err(error.kind()),
+    };
+    let mut sum = 0u64;
+    for value in &set {
+        sum = sum.saturating_add(*value);
+    }
+    Ok((sum, set.len(), set.capacity()))
+}
+
+#[test]
+fn operators_make_new_sets(rt: HostRuntime) {
+    let heap = Faulty::new(rt.alloc());
+    let (mut left, mut right) = (none(&heap), none(&heap));
+    assert!(rt; takes(&mut left, 1..5) && takes(&mut right, 3..20));
+    assert!(rt; summed(&left | &right) == Ok((190, 19, 19)));
+    assert!(rt; summed(&left & &right) == Ok((7, 2, 14)));
+    assert!(rt; summed(&left - &right) == Ok((3, 2, 14)));
+    assert!(rt; summed(&left ^ &right) == Ok((183, 17, 17)));
+    assert!(rt; summed(&left - &left) == Ok((0, 0, 0)));
+    heap.fail_requests(0, 1);
+    let kind = TryReserveErrorKind::AllocError { capacity: 19 };
+    assert!(rt; summed(&left | &right) == Err(kind) && (left.len(), right.len()) == (4, 17));
 }
