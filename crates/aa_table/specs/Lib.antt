@@ -19,3 +19,4 @@ pub mod InsertLends
 pub mod Entry
 pub mod EntryLends
 pub mod SetDraining
+pub mod Removing

@@ -555,12 +555,17 @@ fn an_entry_is_changed(rt: HostRuntime) {
     assert!(rt; table.len() == 10 && heap.requests() == 3);
 }
 
-// The value of a key that is inserted by its entry, if it is absent, by a closure or as 0.
-fn made_value(table: &mut Small<'_>, key: u64, by: bool) -> Option<u64> {
-    if by {
-        Some(*table.entry(key).or_insert_with(|| 7).ok()?)
-    } else {
-        Some(*table.entry(key).or_default().ok()?)
+// The value of a key that is inserted by its entry, if it is absent: 7, or twice the key, or 0.
+fn made_value(table: &mut Small<'_>, key: u64, way: u32) -> Option<u64> {
+    match way {
+        0 => Some(*table.entry(key).or_insert_with(|| 7).ok()?),
+        1 => Some(
+            *table
+                .entry(key)
+                .or_insert_with_key(|k| k.wrapping_mul(2))
+                .ok()?,
+        ),
+        _ => Some(*table.entry(key).or_default().ok()?),
     }
 }
 
@@ -568,8 +573,42 @@ fn made_value(table: &mut Small<'_>, key: u64, by: bool) -> Option<u64> {
 fn an_absent_key_is_given_a_value(rt: HostRuntime) {
     let heap = Faulty::new(rt.alloc());
     let mut table = none(&heap);
-    for (key, by, value) in [(1, true, 7), (2, false, 0), (1, false, 7), (2, true, 0)] {
-        assert!(rt; made_value(&mut table, key, by) == Some(value), "{key}");
+    for (key, way, value) in [
+        (1, 0, 7),
+        (2, 2, 0),
+        (3, 1, 6),
+        (1, 2, 7),
+        (2, 1, 0),
+        (3, 0, 6),
+    ] {
+        assert!(rt; made_value(&mut table, key, way) == Some(value), "{key}");
     }
-    assert!(rt; table.len() == 2);
+    assert!(rt; table.len() == 3);
+}
+
+// Removes a key by its entry. Returns the stored key with its value, or the key if it is absent.
+fn removed(table: &mut Small<'_>, key: u64) -> Result<(u64, u64), u64> {
+    match table.entry(key) {
+        Entry::Occupied(entry) => Ok(entry.remove_entry()),
+        Entry::Vacant(entry) => Err(entry.into_key()),
+    }
+}
+
+// Removes a key by its entry, and returns its value.
+fn removed_value(table: &mut Small<'_>, key: u64) -> Option<u64> {
+    match table.entry(key) {
+        Entry::Occupied(entry) => Some(entry.remove()),
+        Entry::Vacant(_) => None,
+    }
+}
+
+#[test]
+fn a_key_is_removed_by_its_entry(rt: HostRuntime) {
+    let heap = Faulty::new(rt.alloc());
+    let mut table = none(&heap);
+    assert!(rt; takes(&mut table, 1..15) && heap.requests() == 3);
+    assert!(rt; removed(&mut table, 5) == Ok((5, 5)) && removed(&mut table, 5) == Err(5));
+    assert!(rt; removed_value(&mut table, 6) == Some(6) && removed_value(&mut table, 6) == None);
+    assert!(rt; has(&table, 5) == None && has(&table, 7) == Some(7) && table.len() == 12);
+    assert!(rt; takes(&mut table, 20..22) && table.capacity() == 14 && heap.requests() == 3);
 }

@@ -1,6 +1,7 @@
 //! `Table::entry`, and the calls of an entry that is occupied or vacant.
 ghost use Rattle.std.specs.Prelude.{◌≡◌, None, Some, IfErr, IfOk, IsOk, OnErr, MatchOption, length, is_some, true};
-ghost use Rattle.std.specs.Borrow.{sem, MutBor};
+ghost use Rattle.std.specs.Borrow.{sem, Bor, MutBor};
+ghost use Rattle.std.specs.Fn.{FnOnceReturnsAt};
 ghost use Rattle.std.specs.Map.Calls.{ModifiesValue};
 ghost use Rattle.std.specs.Option.{unwrap_or, UnwrapsOrElse};
 ghost use Rattle.aa_table.specs.Full.{LacksRoom};
@@ -128,6 +129,45 @@ impl<'a, K: Eq + Hash + Drop, V: Drop, S: BuildHasher, A: Allocator + Clone> Ent
         match self {
             Entry::Occupied(entry) => Ok(entry.into_mut()),
             Entry::Vacant(entry) => entry.insert(default()),
+        }
+    }
+
+    /// Like `or_insert_with`, but `default` is called with a reference to the key.
+    ///
+    /// # Errors
+    /// The errors of `reserve(1)`. The table is unchanged, and key and value are returned in the
+    /// error.
+    pub fn or_insert_with_key<F: FnOnce(&K) -> V + Drop>(
+        self,
+        default: F,
+    ) -> Result<&'a mut V, Refused<(K, V)>>
+        requires callable { entry_value self ≡ None
+            → (p : Bor K) → p.now ≡ entry_key self → F.pre default p }
+
+        // If the table is not full, it succeeds.
+        ensures fits { HasRoom (entry_table self.entry).now 1 → IsOk result }
+
+        // When the borrow ends, the key has the last value written to it. An error leaves the table
+        // unchanged.
+        ensures* writes_back { sem 𝓛 (lends_entry K.row V.row S.row A.row S.Hasher.row
+            A.Allocator self.entry result) }
+        ensures value { IfOk result (λ v. UnwrapsOrElse (entry_value self.entry)
+            (FnOnceReturnsAt F.FnOnce default (entry_key self.entry)) v.now) }
+
+        // An error returns key and value, and says why it failed.
+        ensures returned { IfErr result (λ r. (r.source.0 ≡ entry_key self.entry)
+            × FnOnceReturnsAt F.FnOnce default (entry_key self.entry) r.source.1) }
+        ensures absent { OnErr result (entry_value self.entry ≡ None) }
+        ensures error { let table = (entry_table self.entry).now in
+            IfErr result (λ r. LacksRoom table.capacity (length table.entries) 1
+            (capacity_for table 1) r.error) }
+    {
+        match self {
+            Entry::Occupied(entry) => Ok(entry.into_mut()),
+            Entry::Vacant(entry) => {
+                let value = default(entry.key());
+                entry.insert(value)
+            }
         }
     }
 

@@ -2,8 +2,9 @@
 ghost use Rattle.std.specs.Prelude.{◌≡◌, Some};
 ghost use Rattle.std.specs.Borrow.{sem, MutBor};
 ghost use Rattle.std.specs.Map.Calls.{ModifiesValue};
-ghost use Rattle.aa_table.specs.Entry.{Occupied, entry_value, stored_key, IsWritten};
+ghost use Rattle.aa_table.specs.Entry.{Occupied, entry_table, entry_key, entry_value, stored_key, IsWritten};
 ghost use Rattle.aa_table.specs.EntryLends.{lends_occupied};
+ghost use Rattle.aa_table.specs.Removing.{Removes};
 
 use super::OccupiedEntry;
 use std::alloc::Allocator;
@@ -65,5 +66,34 @@ impl<'a, K: Eq + Hash + Drop, V: Drop, S: BuildHasher, A: Allocator + Clone> Occ
     {
         let slot = self.slot;
         mem::replace(self.table.stored_mut(slot, &self.key), value)
+    }
+
+    /// Removes the entry from the table and returns its value.
+    ///
+    /// Preserves the order of the other keys. Does not allocate, and does not change the capacity:
+    /// another key can then be inserted.
+    pub fn remove(self) -> V
+        // It returns the value, and the table is then the old one without the key.
+        ensures value { entry_value (Occupied self.entry) ≡ Some result }
+        ensures removed { Removes K.eq (entry_table (Occupied self.entry)).now
+            (entry_key (Occupied self.entry)) self.exit.0.now }
+    {
+        let (_key, value) = self.remove_entry();
+        value
+    }
+
+    /// Removes the entry from the table and returns the stored key and its value.
+    ///
+    /// Preserves the order of the other keys. Does not allocate, and does not change the capacity:
+    /// another key can then be inserted.
+    pub fn remove_entry(self) -> (K, V)
+        // It returns the stored entry, and the table is then the old one without the key.
+        ensures key { result.0 ≡ stored_key (Occupied self.entry) }
+        ensures value { entry_value (Occupied self.entry) ≡ Some result.1 }
+        ensures removed { Removes K.eq (entry_table (Occupied self.entry)).now
+            (entry_key (Occupied self.entry)) self.exit.0.now }
+    {
+        let key = self.key;
+        self.table.take(&key)
     }
 }

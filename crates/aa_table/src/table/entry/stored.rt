@@ -2,6 +2,7 @@
 ghost use Rattle.std.specs.Prelude.{◌≡◌, Some, true, is_some};
 ghost use Rattle.std.specs.Borrow.{sem};
 ghost use Rattle.aa_table.specs.Contents.{entry_of, value};
+ghost use Rattle.aa_table.specs.Removing.{Removes};
 
 use crate::index::find_near;
 use crate::table::Table;
@@ -40,6 +41,20 @@ impl<K: Eq + Hash, V, S: BuildHasher, A: Allocator> Table<K, V, S, A> {
     {
         match find_near(&self.builder, &self.index, &self.places, hint, key) {
             Some(slot) => &mut self.places.place_mut(slot).1,
+            None => unreachable!(),
+        }
+    }
+}
+
+impl<K: Eq + Hash + Drop, V: Drop, S: BuildHasher, A: Allocator + Clone> Table<K, V, S, A> {
+    // Removes `key`, which is present, and returns the stored key and its value.
+    pub(crate) fn take(&mut self, key: &K) -> (K, V)
+        requires there { is_some (value K.eq self.old.entries key.now) ≡ true }
+        ensures entry { entry_of K.eq self.old.entries key.now ≡ Some result }
+        ensures removed { Removes K.eq self.old key.now self.new }
+    {
+        match self.remove_entry(key) {
+            Some(entry) => entry,
             None => unreachable!(),
         }
     }
