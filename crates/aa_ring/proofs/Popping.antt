@@ -1,5 +1,5 @@
 -- An item at an end that a closure tests, and that is then removed or stays.
-use Rattle.std.proofs.Common.{inr, ◌≡◌, ℕ, zero, suc, ◌+◌, ◌-◌, ◌<◌, Bool, true, false, List, [], ◌∷◌, ◌++◌, length, take, drop, get_or, Option, None, Some, refl, sym, ap, ◌∙◌, arith, length-append, MutBor}
+use Rattle.std.proofs.Common.{inr, ◌≡◌, ℕ, zero, suc, ◌+◌, Bool, true, false, List, [], ◌∷◌, ◌++◌, length, take, drop, get_or, Option, None, Some, refl, sym, ap, ◌∙◌, arith, length-append, MutBor}
 use Rattle.std.specs.Prelude.{MatchOption, slice_get, slice_set}
 use Rattle.std.specs.Fn.{FnOnceReturnsAtMut, Once}
 use Rattle.std.proofs.lemmas.List.{drop_at, take_at}

@@ -1,4 +1,4 @@
-use Rattle.std.proofs.Common.{◌≡◌, ◌+◌, Ok, Err, length, sym, ap, ◌∙◌, subst}
+use Rattle.std.proofs.Common.{◌+◌, Ok, Err, length, sym, ap, ◌∙◌, subst}
 use Rattle.std.specs.List.Sorted.{IsBinarySearchResult}
 use Rattle.std.specs.Ordering.{is_gt}
 use Rattle.aa_ring.proofs.Searching.{computed, computes-next, gt_is, not_gt, in-first, found-second, none-second}

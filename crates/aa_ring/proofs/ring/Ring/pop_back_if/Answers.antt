@@ -1,4 +1,4 @@
-use Rattle.std.proofs.Common.{◌≡◌, ◌+◌, ◌-◌, ◌<◌, length, Some, ap, arith}
+use Rattle.std.proofs.Common.{◌-◌, arith}
 use Rattle.aa_ring.proofs.Popping.{last-goes, last-stays}
 use Rattle.aa_ring.proofs.ring.Ring.pop_back_if.Goals as goal
 

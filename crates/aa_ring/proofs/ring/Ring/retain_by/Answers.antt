@@ -1,4 +1,4 @@
-use Rattle.std.proofs.Common.{◌<◌, length, refl, arith}
+use Rattle.std.proofs.Common.{◌<◌, length, arith}
 use Rattle.std.specs.Fn.{CalledAtMut}
 use Rattle.allocator_api2.specs.Choosing.{CallableAtMut}
 use Rattle.aa_ring.proofs.Retaining.{may-next, next-kept, next-passed, room, some-left, turned}
