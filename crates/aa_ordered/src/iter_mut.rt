@@ -7,16 +7,13 @@ ghost use Rattle.std.specs.Map.{values_of};
 ghost use Rattle.aa_ordered.specs.Entries.{IsOrdered};
 ghost use Rattle.aa_ordered.specs.IterMut.{values, KeepsKeys};
 
-use crate::leaves::Head;
+use crate::leaves::{Head, LEAF};
 use crate::map::OrderedMap;
 use allocator_api2::raw_vec::EntriesMut;
 use std::alloc::Allocator;
 use std::cmp::Ord;
 use std::iter::FusedIterator;
 use std::marker::Model;
-
-// The number of places of a leaf.
-const LEAF: usize = 64;
 
 /// An iterator over the keys of a map and mutable references to their values, in the order of the
 /// keys.

@@ -19,8 +19,8 @@ pub(crate) mod taking;
 
 use slices::Slices;
 
-// The number of places of a leaf.
-const LEAF: usize = 64;
+/// The number of places of a leaf.
+pub(crate) const LEAF: usize = 64;
 
 /// A leaf of the block, and the number of its items.
 #[derive(Clone, Copy, Drop)]

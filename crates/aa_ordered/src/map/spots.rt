@@ -5,13 +5,11 @@ ghost use Rattle.aa_ordered.specs.Balance.{first, joined, last, lengths, positio
 ghost use Rattle.aa_ordered.specs.Capacity.{capacity_of, leaves_for};
 ghost use Rattle.aa_ordered.specs.Leaves.{list_at};
 
-use crate::leaves::Leaves;
+use crate::leaves::{LEAF, Leaves};
 use allocator_api2::collections::{Refused, TryReserveError};
 use std::alloc::Allocator;
 
-// The number of places of a leaf, and half of it.
-const LEAF: usize = 64;
-
+// Half of the number of places of a leaf.
 const HALF: usize = 32;
 
 /// An index of a list, and an index in that list.
