@@ -224,10 +224,22 @@ impl<T: Drop, A: Allocator + Clone, K> SlotMap<T, A, K> {
         ensures error { IfErr result (λ e. IsErrorFor e (grown self.old.capacity)) }
         ensures unchanged { OnErr result (self.new ≡ self.old) }
     {
-        if self.len() < self.capacity() {
+        if self.has_room() {
             return Ok(());
         }
         self.grow()
+    }
+
+    // Returns `true` if there is capacity for one more value. A free slot has it.
+    #[inline(always)]
+    fn has_room(&self) -> bool
+        ensures room { result ≡ nat_lt (count self.now.slots) self.now.capacity }
+        ensures within { count self.now.slots ≤ self.now.capacity }
+    {
+        if self.free.count > 0 {
+            return true;
+        }
+        slots_in(&self.slots).len() < self.capacity()
     }
 
     // Doubles the capacity of a full map, or adds four if that is more. Rarely called, so its code
@@ -256,7 +268,7 @@ impl<T: Drop, A: Allocator + Clone, K> SlotMap<T, A, K> {
     /// `CapacityOverflow` if 2^63 keys were issued, or the bytes exceed `isize::MAX`; `AllocError`
     /// with the requested capacity if an allocation or a clone of the allocator fails.
     /// The map is unchanged, and `value` is returned in the error.
-    #[inline]
+    #[inline(always)]
     pub fn insert(&mut self, value: T) -> Result<Key<K>, Refused<T>>
         // If the map is not full, and keys remain to be issued, it succeeds.
         ensures fits { HasRoom self.old 1 → self.old.issued < 2 ^ 63 → IsOk result }

@@ -20,7 +20,7 @@ fn finds_by_its_keys(players: &mut Players<'_>) -> Option<bool> {
     let second = players.insert(2).ok()?;
     let removed = players.remove(first);
     let third = players.insert(3).ok()?;
-    players[second] += 20;
+    players[second] = 22;
     Some(
         removed == Some(1)
             && players.get(first).is_none()
