@@ -245,6 +245,38 @@ fn each_removed_item_is_dropped_at_once(rt: HostRuntime) {
     assert!(rt; is_all_freed(&heap));
 }
 
+// Up to two texts inline, over the allocator of the vector.
+type Texts<'a> = InlineVec<String<&'a Faulty<Global>>, &'a Faulty<Global>, 2>;
+
+// Appends texts, one by one.
+fn push_texts<'a>(texts: &mut Texts<'a>, words: &[&str]) -> Result<(), AllocError> {
+    for word in words {
+        let mut text = String::new(*texts.allocator());
+        text.push_str(word)?;
+        if let Err(_) = texts.push(text) {
+            return Err(AllocError);
+        }
+    }
+    Ok(())
+}
+
+// Whether the last of three texts, of which the first two are inline first, is removed.
+fn texts_come_and_go(heap: &Faulty<Global>) -> Result<bool, AllocError> {
+    let mut texts: Texts<'_> = InlineVec::new_in(heap);
+    push_texts(&mut texts, &["a", "bc", "def"])?;
+    match texts.pop() {
+        Some(text) => Ok(text.as_str() == "def" && texts[0].as_str() == "a" && texts.len() == 2),
+        None => Ok(false),
+    }
+}
+
+#[test]
+fn texts_are_held_without_a_default(rt: HostRuntime) -> Result<(), Fail> {
+    let heap = Faulty::new(rt.alloc());
+    assert!(rt; texts_come_and_go(&heap)? && is_all_freed(&heap));
+    Ok(())
+}
+
 // Whether all items are taken out, and none is left.
 fn is_drained(v: &mut Small<'_>) -> bool {
     let mut items = v.drain(..);
@@ -261,7 +293,7 @@ fn items_are_appended_and_repeats_removed(rt: HostRuntime) {
     assert!(rt; has(&v, &[4, 5, 4]));
     assert!(rt; appends(&mut v).is_ok() && has(&v, &[4, 5, 4, 8, 9]));
     assert!(rt; v.resize(2, 7).is_ok() && v.resize(4, 7).is_ok() && has(&v, &[4, 5, 7, 7]));
-    assert!(rt; is_drained(&mut v) && heap.outstanding() == 0);
+    assert!(rt; is_drained(&mut v) && v.spilled());
 }
 
 // The bytes that are written to a vector of up to five inline.

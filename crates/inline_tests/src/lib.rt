@@ -3,3 +3,5 @@
 
 #[cfg(test)]
 mod inline;
+#[cfg(test)]
+mod removed;
