@@ -8,7 +8,7 @@ use Rattle.std.specs.declared.cmp.Ord as ord
 use Rattle.std.specs.declared.cmp.PartialEq as eq
 use Rattle.std.specs.declared.cmp.PartialOrd as partial
 use Rattle.std.specs.declared.cmp.Ordering.{Ordering}
-use Rattle.aa_ordered.specs.Entries.{entry_of, value, OrderedView}
+use Rattle.aa_ordered.specs.Entries.{entry_of, value, without, OrderedView}
 use Rattle.aa_ordered.specs.Inserting.{Inserts}
 use Rattle.aa_ordered.specs.contracts.map.OrderedMap.{the_row}
 use Rattle.aa_ordered.specs.declared.entry.Entry.{Entry}
@@ -45,6 +45,11 @@ module _ {K V A : Type 0} {o : ord.Ghosts K} {e : eq.Ghosts K} {p : partial.Ghos
 abbrev pub writes : {K V : Type 0} (cmp : K → K → Ordering) → OrderedView K V → K → V
     → OrderedView K V
 writes cmp m k v = record { entries = insert_entry cmp m.entries k v; capacity = m.capacity }
+
+-- the map `m` without the key `k`
+abbrev pub removes : {K V : Type 0} (cmp : K → K → Ordering) → OrderedView K V → K
+    → OrderedView K V
+removes cmp m k = record { entries = without cmp m.entries k; capacity = m.capacity }
 
 module _ (K V A : RattleType) {o : ord.Ghosts K.Denot} {e : eq.Ghosts K.Denot}
     {p : partial.Ghosts K.Denot} (a : alloc.Ghosts A.Denot) where

@@ -1,4 +1,5 @@
 //! Insertion, lookup and removal.
+use aa_ordered::entry::Entry;
 use aa_ordered::map::{OrderedMap, TryInsertError};
 use allocator_api2::collections::TryReserveErrorKind;
 use std::alloc::Global;
@@ -313,4 +314,38 @@ fn no_map_grows_past_the_limits(rt: HostRuntime) {
     for additional in [1 << 60, usize::MAX] {
         assert!(rt; is_past_the_limits(&mut map, additional) && heap.requests() == 0);
     }
+}
+
+// Removes a key by its entry. Returns the key and its value if it was present.
+fn removed(map: &mut Small<'_>, key: u64) -> Option<(u64, u64)> {
+    match map.entry(key) {
+        Entry::Occupied(entry) => Some(entry.remove_entry()),
+        Entry::Vacant(_) => None,
+    }
+}
+
+// Inserts twice the key as its value, unless it is present, and removes it by its entry. Returns its
+// value.
+fn doubled(map: &mut Small<'_>, key: u64) -> Option<u64> {
+    map.entry(key)
+        .or_insert_with_key(|k| k.wrapping_mul(2))
+        .ok()?;
+    match map.entry(key) {
+        Entry::Occupied(entry) => Some(entry.remove()),
+        Entry::Vacant(_) => None,
+    }
+}
+
+#[test]
+fn keys_are_removed_by_their_entries(rt: HostRuntime) {
+    let heap = Faulty::new(rt.alloc());
+    let mut map = none(&heap);
+    for key in 0u64..200 {
+        assert!(rt; adds(&mut map, key, 1));
+    }
+    for key in 50u64..150 {
+        assert!(rt; removed(&mut map, key) == Some((key, 1)) && removed(&mut map, key) == None);
+    }
+    assert!(rt; doubled(&mut map, 70) == Some(140) && doubled(&mut map, 20) == Some(1));
+    assert!(rt; map.len() == 99 && map.get(&49) == Some(&1) && map.get(&70) == None);
 }

@@ -1,13 +1,14 @@
 //! `OrderedMap::entry`, and the calls of an entry.
 ghost use Rattle.std.specs.Prelude.{◌≡◌, ◌<◌, is_some, length, option_map, true, None, Some, IfErr, IfOk, IfSome, IsOk, MatchOption, OnErr};
-ghost use Rattle.std.specs.Borrow.{sem, MutBor};
+ghost use Rattle.std.specs.Borrow.{sem, Bor, MutBor};
+ghost use Rattle.std.specs.Fn.{FnOnceReturnsAt};
 ghost use Rattle.std.specs.Map.{keys_of};
 ghost use Rattle.std.specs.Map.Calls.{ModifiesValue};
 ghost use Rattle.std.specs.Option.{unwrap_or, UnwrapsOrElse};
 ghost use Rattle.allocator_api2.specs.Errors.{IsErrorFor};
 ghost use Rattle.aa_ordered.specs.Capacity.{requested};
 ghost use Rattle.aa_ordered.specs.Entries.{entry_of, value, OrderedView};
-ghost use Rattle.aa_ordered.specs.Entry.{Occupied, Vacant, entry_key, entry_map, entry_value, lends_entry, lends_occupied, stored_key, writes, MatchEntry};
+ghost use Rattle.aa_ordered.specs.Entry.{Occupied, Vacant, entry_key, entry_map, entry_value, lends_entry, lends_occupied, removes, stored_key, writes, MatchEntry};
 ghost use Rattle.aa_ordered.specs.Inserting.{Inserts};
 
 use super::{Entry, OccupiedEntry, VacantEntry};
@@ -104,6 +105,31 @@ impl<'a, K: Ord + Drop, V: Drop, A: Allocator + Clone> OccupiedEntry<'a, K, V, A
         ensures key { self.new.key ≡ self.old.key }
     {
         mem::replace(self.map.stored_mut(&self.key), value)
+    }
+
+    /// Removes the entry from the map and returns its value.
+    ///
+    /// Does not allocate, and does not change the capacity.
+    pub fn remove(self) -> V
+        ensures value { entry_value (Occupied self.entry) ≡ Some result }
+        ensures removed { self.exit.0.now ≡ removes K.cmp (entry_map (Occupied self.entry)).now
+            (entry_key (Occupied self.entry)) }
+    {
+        let (_key, value) = self.remove_entry();
+        value
+    }
+
+    /// Removes the entry from the map and returns the stored key and its value.
+    ///
+    /// Does not allocate, and does not change the capacity.
+    pub fn remove_entry(self) -> (K, V)
+        ensures entry { entry_of K.cmp (entry_map (Occupied self.entry)).now.entries
+            (entry_key (Occupied self.entry)) ≡ Some result }
+        ensures removed { self.exit.0.now ≡ removes K.cmp (entry_map (Occupied self.entry)).now
+            (entry_key (Occupied self.entry)) }
+    {
+        let key = self.key;
+        self.map.take(&key)
     }
 }
 
@@ -230,6 +256,45 @@ impl<'a, K: Ord + Drop, V: Drop, A: Allocator + Clone> Entry<'a, K, V, A> {
         match self {
             Entry::Occupied(entry) => Ok(entry.into_mut()),
             Entry::Vacant(entry) => entry.insert(default()),
+        }
+    }
+
+    /// Like `or_insert_with`, but `default` is called with a reference to the key.
+    ///
+    /// # Errors
+    /// The errors of `OrderedMap::insert`. The map is unchanged, and key and value are returned in
+    /// the error.
+    pub fn or_insert_with_key<F: FnOnce(&K) -> V + Drop>(
+        self,
+        default: F,
+    ) -> Result<&'a mut V, Refused<(K, V)>>
+        requires callable { entry_value self ≡ None
+            → (p : Bor K) → p.now ≡ entry_key self → F.pre default p }
+
+        // If there is capacity, it succeeds.
+        ensures fits { let map = (entry_map self.entry).now in
+            length map.entries < map.capacity → IsOk result }
+
+        // When the borrow ends, the key has the last value written to it. An error leaves the map
+        // unchanged.
+        ensures* writes_back { sem 𝓛 (lends_entry K.row V.row A.row A.Allocator self.entry
+            result) }
+        ensures value { IfOk result (λ v. UnwrapsOrElse (entry_value self.entry)
+            (FnOnceReturnsAt F.FnOnce default (entry_key self.entry)) v.now) }
+
+        // An error returns key and value, and says why it failed.
+        ensures returned { IfErr result (λ r. (r.source.0 ≡ entry_key self.entry)
+            × FnOnceReturnsAt F.FnOnce default (entry_key self.entry) r.source.1) }
+        ensures absent { OnErr result (entry_value self.entry ≡ None) }
+        ensures error { IfErr result
+            (λ r. IsErrorFor r.error (requested (entry_map self.entry).now 1)) }
+    {
+        match self {
+            Entry::Occupied(entry) => Ok(entry.into_mut()),
+            Entry::Vacant(entry) => {
+                let value = default(entry.key());
+                entry.insert(value)
+            }
         }
     }
 

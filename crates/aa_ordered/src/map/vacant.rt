@@ -5,7 +5,7 @@ ghost use Rattle.std.specs.BTreeMap.{insert_entry};
 ghost use Rattle.std.specs.Map.{keys_of};
 ghost use Rattle.allocator_api2.specs.Errors.{IsErrorFor};
 ghost use Rattle.aa_ordered.specs.Capacity.{requested};
-ghost use Rattle.aa_ordered.specs.Entries.{value};
+ghost use Rattle.aa_ordered.specs.Entries.{entry_of, value, without};
 
 use super::find::find;
 use super::spots::insert_at;
@@ -40,6 +40,21 @@ impl<K: Ord + Drop, V: Drop, A: Allocator + Clone> OrderedMap<K, V, A> {
                 Ok(&mut self.leaves.item_mut(to.list, to.at).1)
             }
             Err(refused) => Err(refused),
+        }
+    }
+
+    // Removes `key`, which is present, and returns the stored key and its value.
+    pub(crate) fn take(&mut self, key: &K) -> (K, V)
+        requires { is_some (value K.cmp self.old.entries key.now) ≡ true }
+        ensures entry { entry_of K.cmp self.old.entries key.now ≡ Some result }
+        ensures removed { self.new ≡ record {
+          entries = without K.cmp self.old.entries key.now;
+          capacity = self.old.capacity;
+        } }
+    {
+        match self.remove_entry(key) {
+            Some(entry) => entry,
+            None => unreachable!(),
         }
     }
 
