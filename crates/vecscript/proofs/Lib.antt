@@ -8,6 +8,7 @@ pub mod Parts
 pub mod Pieces
 pub mod Read
 pub mod Sparing
+pub mod Table
 pub mod Taken
 pub mod TextLines
 pub mod Restated

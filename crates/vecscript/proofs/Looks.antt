@@ -5,7 +5,8 @@ use Rattle.allocator_api2.specs.declared.raw_vec.Growth.TheVariants.{Doubling}
 use Rattle.allocator_api2.specs.declared.runner.Command.TheVariants.{Extend, Splice}
 use Rattle.vecscript.specs.Faults.{ReadsAs, ReadsAsOrOutOfMemory, Decides}
 use Rattle.vecscript.specs.declared.script.Fault.TheVariants.{BadLine, OutOfMemory}
-use Rattle.vecscript.specs.Lines.{IsHint, SaysExtend, SaysSplice, SayAfter}
+use Rattle.vecscript.specs.Lines.{IsHint}
+use Rattle.vecscript.specs.Names.{SaysExtend, SaysSplice}
 
 -- a vector of these elements
 abbrev listed : List ℕ → Vector ℕ Global
@@ -23,7 +24,7 @@ pub splice-decided : (b : Bool) (v w word : List ℕ) (words all : List (List �
     → Denotes (2 ^ 64) v start → Denotes (2 ^ 64) w end → IsHint word hint
     → Decides b (AllZip (Denotes (2 ^ 32)) words) → Decides b (SaysSplice all)
 splice-decided true v w word words all start end hint is first last hinted decided =
-    rw is (Splice start end (listed decided.0) hint, (first, last, hinted, decided.1))
+    rw is (Splice start end (listed decided.0) hint, (first, last, (hinted, decided.1)))
 splice-decided false v w word words all start end hint is first last hinted decided = rw is (λ command said. grind arith)
 
 -- a line whose words say no command is bad
@@ -31,9 +32,9 @@ bad-words : (line word : List ℕ) (words : List (List ℕ)) → words_of line �
 bad-words line word words is unsaid = record { has_words = λ none. omega (arith, ap length (sym none ∙ is)); says_nothing = λ command said. unsaid command (rw is at said) }
 
 -- a line with words is good if they say a command
-pub good_if_said : (b : Bool) (line : List ℕ) → words_of line ≢ [] → Decides b (Say (words_of line)) → MatchBool b (¬ (IsBad line)) (IsBad line)
-good_if_said true line some decided = λ bad. bad.says_nothing decided.0 decided.1
-good_if_said false line some decided = record { has_words = some; says_nothing = decided }
+pub good_if_said : (b : Bool) (line word : List ℕ) (words : List (List ℕ)) → words_of line ≡ word ∷ words → Decides b (Say (word ∷ words)) → MatchBool b (¬ (IsBad line)) (IsBad line)
+good_if_said true line word words is decided = λ bad. bad.says_nothing decided.0 (rw is decided.1)
+good_if_said false line word words is decided = bad-words line word words is decided
 
 -- if nothing follows the name, the line says what the name says
 pub said-alone : (name rest : List ℕ) (command : Command ℕ Global) → length rest ≡ 0 → Say (name ∷ []) command → Say (name ∷ words_of rest) command
@@ -50,7 +51,7 @@ bad-unread number line word words is (Err fault) (inr unread) = inr (unread.0, b
 
 -- nor those that are read as no push
 pub bad-unpushed : (number : ℕ) (line : List ℕ) (words : List (List ℕ)) → words_of line ≡ codes "push" ∷ words → (r : Result (Command ℕ Global) Fault)
-    → ReadsAs number (SayAfter (codes "push") words) r → IfErr r (λ fault. (fault ≡ OutOfMemory) ⊎ ((fault ≡ BadLine number) × IsBad line))
+    → ReadsAs number (Say (codes "push" ∷ words)) r → IfErr r (λ fault. (fault ≡ OutOfMemory) ⊎ ((fault ≡ BadLine number) × IsBad line))
 bad-unpushed number line words is (Ok command) read = tt
 bad-unpushed number line words is (Err fault) read = inr (read.0, bad-words line (codes "push") words is read.1)
 

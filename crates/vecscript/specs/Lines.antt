@@ -1,5 +1,5 @@
 -- How lines are parsed: the words of a line, and the command that they say.
-use Rattle.std.specs.Prelude.{◌≡◌, ◌≢◌, ℕ, ◌+◌, ◌^◌, ◌<◌, Bool, true, false, ◌==◌, ◌||◌, List, [], ◌∷◌, ◌++◌, length, filter, if◌then◌else◌, Option, None, Some, nat_lt, codes, MatchBool, All, map}
+use Rattle.std.specs.Prelude.{◌≡◌, ◌≢◌, ℕ, ◌+◌, ◌^◌, ◌<◌, Bool, true, false, ◌==◌, ◌||◌, List, [], ◌∷◌, ◌++◌, length, filter, if◌then◌else◌, Option, None, Some, nat_lt, codes, All, map}
 use Rattle.std.specs.Global.{Global}
 use Rattle.std.specs.List.{AllByRecursion, AllZip, slice_split}
 use Rattle.std.specs.Str.{bytes_eq}
@@ -60,70 +60,51 @@ AreDrain words p =
     × (words ≡ s ∷ t ∷ u ∷ v ∷ w ∷ []) × Denotes (2 ^ 64) s p.0 × Denotes (2 ^ 64) t p.1
     × Denotes (2 ^ 64) u p.2 × Denotes (2 ^ 64) v p.3 × SaysKept w p.4
 
--- the words `rest` after one of the less common names say the command
-abbrev pub SayAfterUncommon : List ℕ → List (List ℕ) → Command ℕ Global → Type 0
-SayAfterUncommon name rest command =
-    MatchBool (bytes_eq name (codes "shrink_to"))
-    ((n : ℕ) × IsNumber rest n × (command ≡ ShrinkTo n))
-    (MatchBool (bytes_eq name (codes "split_off"))
-    ((n : ℕ) × IsNumber rest n × (command ≡ SplitOff n))
-    (MatchBool (bytes_eq name (codes "append")) ((rest ≡ []) × (command ≡ Append))
-    (MatchBool (bytes_eq name (codes "extend_from_within"))
-    ((p : ℕ × ℕ) × AreNumbers rest p × (command ≡ ExtendFromWithin p.0 p.1))
-    (MatchBool (bytes_eq name (codes "resize"))
-    ((p : ℕ × ℕ) × AreNumberAndElement rest p × (command ≡ Resize p.0 p.1))
-    (MatchBool (bytes_eq name (codes "retain")) ((rest ≡ []) × (command ≡ Retain))
-    (MatchBool (bytes_eq name (codes "dedup")) ((rest ≡ []) × (command ≡ Dedup))
-    (MatchBool (bytes_eq name (codes "drain"))
-    ((p : ℕ × ℕ × ℕ × ℕ × Bool) × AreDrain rest p × (command ≡ Drain p.0 p.1 p.2 p.3 p.4))
-    (MatchBool (bytes_eq name (codes "extract"))
-    ((p : ℕ × ℕ × ℕ) × AreThreeNumbers rest p × (command ≡ ExtractIf p.0 p.1 p.2))
-    ⊥))))))))
-
--- the words `rest` after this name say the command
-abbrev pub SayAfter : List ℕ → List (List ℕ) → Command ℕ Global → Type 0
-SayAfter name rest command =
-    MatchBool (bytes_eq name (codes "push")) ((x : ℕ) × IsElement rest x × (command ≡ Push x))
-    (MatchBool (bytes_eq name (codes "within")) ((x : ℕ) × IsElement rest x × (command ≡ Within x))
-    (MatchBool (bytes_eq name (codes "pop")) ((rest ≡ []) × (command ≡ Pop))
-    (MatchBool (bytes_eq name (codes "insert"))
-    ((p : ℕ × ℕ) × AreNumberAndElement rest p × (command ≡ Insert p.0 p.1))
-    (MatchBool (bytes_eq name (codes "remove")) ((n : ℕ) × IsNumber rest n × (command ≡ Remove n))
-    (MatchBool (bytes_eq name (codes "swap_remove"))
-    ((n : ℕ) × IsNumber rest n × (command ≡ SwapRemove n))
-    (MatchBool (bytes_eq name (codes "truncate"))
-    ((n : ℕ) × IsNumber rest n × (command ≡ Truncate n))
-    (MatchBool (bytes_eq name (codes "clear")) ((rest ≡ []) × (command ≡ Clear))
-    (MatchBool (bytes_eq name (codes "reserve")) ((n : ℕ) × IsNumber rest n × (command ≡ Reserve n))
-    (MatchBool (bytes_eq name (codes "reserve_exact"))
-    ((n : ℕ) × IsNumber rest n × (command ≡ ReserveExact n))
-    (SayAfterUncommon name rest command))))))))))
-
 -- the word denotes the hint: a hyphen for no hint, or else the number
 abbrev pub IsHint : List ℕ → Option ℕ → Type 0
 IsHint word None = word ≡ codes "-"
 IsHint word (Some n) = Denotes (2 ^ 64) word n
 
--- the words, a hint and then elements, say the command `Extend`
-abbrev pub SaysExtend : List (List ℕ) → Command ℕ Global → Type 0
-SaysExtend (word ∷ words) (Extend items hint) =
-    IsHint word hint × AllZip (Denotes (2 ^ 32)) words items.items
-SaysExtend words command = ⊥
+-- the words are a hint, and then elements
+abbrev pub AreExtend : List (List ℕ) → (items : List ℕ) → (hint : Option ℕ) → Type 0
+AreExtend [] items hint = ⊥
+AreExtend (word ∷ words) items hint = IsHint word hint × AllZip (Denotes (2 ^ 32)) words items
 
--- the words, where a range begins and ends, a hint and then elements, say the command `Splice`
-abbrev pub SaysSplice : List (List ℕ) → Command ℕ Global → Type 0
-SaysSplice (v ∷ w ∷ word ∷ words) (Splice start end items hint) =
-    Denotes (2 ^ 64) v start × Denotes (2 ^ 64) w end × IsHint word hint
-    × AllZip (Denotes (2 ^ 32)) words items.items
-SaysSplice words command = ⊥
+-- the words are where a range begins and ends, a hint, and then elements
+abbrev pub AreSplice : List (List ℕ) → (start end : ℕ) → (items : List ℕ) → (hint : Option ℕ) → Type 0
+AreSplice (v ∷ w ∷ words) start end items hint =
+    Denotes (2 ^ 64) v start × Denotes (2 ^ 64) w end × AreExtend words items hint
+AreSplice words start end items hint = ⊥
 
--- the words of a line say the command
+-- the words of a line, a name and what follows it, say the command
 abbrev pub Say : List (List ℕ) → Command ℕ Global → Type 0
 Say [] command = ⊥
-Say (name ∷ rest) command =
-    MatchBool (bytes_eq name (codes "extend")) (SaysExtend rest command)
-    (MatchBool (bytes_eq name (codes "splice"))
-    (SaysSplice rest command) (SayAfter name rest command))
+Say (name ∷ rest) (Push x) = (name ≡ codes "push") × IsElement rest x
+Say (name ∷ rest) (Within x) = (name ≡ codes "within") × IsElement rest x
+Say (name ∷ rest) Pop = (name ≡ codes "pop") × (rest ≡ [])
+Say (name ∷ rest) (Insert index x) =
+    (name ≡ codes "insert") × AreNumberAndElement rest (index, x)
+Say (name ∷ rest) (Remove index) = (name ≡ codes "remove") × IsNumber rest index
+Say (name ∷ rest) (SwapRemove index) = (name ≡ codes "swap_remove") × IsNumber rest index
+Say (name ∷ rest) (Truncate n) = (name ≡ codes "truncate") × IsNumber rest n
+Say (name ∷ rest) Clear = (name ≡ codes "clear") × (rest ≡ [])
+Say (name ∷ rest) (Reserve n) = (name ≡ codes "reserve") × IsNumber rest n
+Say (name ∷ rest) (ReserveExact n) = (name ≡ codes "reserve_exact") × IsNumber rest n
+Say (name ∷ rest) (ShrinkTo n) = (name ≡ codes "shrink_to") × IsNumber rest n
+Say (name ∷ rest) (SplitOff index) = (name ≡ codes "split_off") × IsNumber rest index
+Say (name ∷ rest) Append = (name ≡ codes "append") × (rest ≡ [])
+Say (name ∷ rest) (Extend items hint) = (name ≡ codes "extend") × AreExtend rest items.items hint
+Say (name ∷ rest) (ExtendFromWithin start end) =
+    (name ≡ codes "extend_from_within") × AreNumbers rest (start, end)
+Say (name ∷ rest) (Resize n x) = (name ≡ codes "resize") × AreNumberAndElement rest (n, x)
+Say (name ∷ rest) Retain = (name ≡ codes "retain") × (rest ≡ [])
+Say (name ∷ rest) Dedup = (name ≡ codes "dedup") × (rest ≡ [])
+Say (name ∷ rest) (Drain start end front back keep) =
+    (name ≡ codes "drain") × AreDrain rest (start, end, front, back, keep)
+Say (name ∷ rest) (ExtractIf start end n) =
+    (name ≡ codes "extract") × AreThreeNumbers rest (start, end, n)
+Say (name ∷ rest) (Splice start end items hint) =
+    (name ≡ codes "splice") × AreSplice rest start end items.items hint
 
 -- the words of each line that has some, in order
 abbrev pub said_in : List (List ℕ) → List (List (List ℕ))

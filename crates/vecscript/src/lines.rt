@@ -5,7 +5,8 @@ ghost use Rattle.std.specs.List.{AllZip, position_or_len};
 ghost use Rattle.std.specs.Str.{bytes_eq};
 ghost use Rattle.std.specs.Str.Lines.{lines, strip_carriage_return};
 ghost use Rattle.vecscript.specs.Faults.{IsFoundAmong, ReadsAs, ReadsAsOrOutOfMemory, Decides};
-ghost use Rattle.vecscript.specs.Lines.{words_of, IsElement, IsNumber, AreNumberAndElement, AreNumbers, AreThreeNumbers, AreDrain, SaysKept, Denotes, SaysExtend, SaysSplice, SayAfter, SayAfterUncommon, Say, are_sparing, growth_in, command_lines, AreAfterBlank, Mean, IsBad, HasNoBad, IsFirstBad};
+ghost use Rattle.vecscript.specs.Lines.{words_of, IsElement, IsNumber, AreNumberAndElement, AreNumbers, AreThreeNumbers, AreDrain, SaysKept, Denotes, Say, are_sparing, growth_in, command_lines, AreAfterBlank, Mean, IsBad, HasNoBad, IsFirstBad};
+ghost use Rattle.vecscript.specs.Names.{SaysExtend, SaysSplice, SayAfter, SayAfterUncommon};
 
 mod words;
 
@@ -343,7 +344,7 @@ fn command_of_line(
 fn pushed(name: &[u8], number: usize, rest: &[u8]) -> Option<Result<Command<u32>, Fault>>
     ensures { MatchOption result (bytes_eq name.now (codes "push") ≡ false)
         (λ r. (name.now ≡ codes "push")
-        × ReadsAs number (SayAfter (codes "push") (words_of rest.now)) r) }
+        × ReadsAs number (Say (codes "push" ∷ words_of rest.now)) r) }
 {
     let words = Words { rest };
     match name {

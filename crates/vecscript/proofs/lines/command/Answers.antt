@@ -1,8 +1,12 @@
 use Rattle.vecscript.proofs.Common.{codes, refl, rules}
 use Rattle.vecscript.proofs.Named.{ReadsAs-named}
-use Rattle.vecscript.specs.Lines.{SayAfter}
+use Rattle.vecscript.proofs.Table.{read-by-tests}
+use Rattle.vecscript.specs.Names.{SayAfter}
 use Rattle.allocator_api2.specs.declared.runner.Command.TheVariants.{Insert, Remove, Reserve, ReserveExact, SwapRemove, Truncate, Within}
 use Rattle.vecscript.proofs.lines.command.Goals as goal
+
+pub returns-in-Some : goal.returns-in-Some
+returns-in-Some c = let (is, read) = c.in-Some.ensures in rw is (read-by-tests (codes "push") _ _ _ read)
 
 pub returns-then-eq : goal.returns-then-eq
 returns-then-eq c = ReadsAs-named SayAfter _ _ _ c.args.name.now (codes "within") c.element.result c.map.result (search rules) Within refl c.element.ensures (search rules)

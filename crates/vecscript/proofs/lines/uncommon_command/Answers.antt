@@ -1,6 +1,6 @@
 use Rattle.vecscript.proofs.Common.{ExtractIf, SplitOff, codes, refl, rules}
 use Rattle.vecscript.proofs.Named.{ReadsAs-named}
-use Rattle.vecscript.specs.Lines.{SayAfterUncommon}
+use Rattle.vecscript.specs.Names.{SayAfterUncommon}
 use Rattle.allocator_api2.specs.declared.runner.Command.TheVariants.{Drain, ExtendFromWithin, Resize, ShrinkTo}
 use Rattle.vecscript.proofs.lines.uncommon_command.Goals as goal
 
