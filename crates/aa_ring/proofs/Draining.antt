@@ -135,11 +135,11 @@ least-moved t n by e = omega (arith, e)
 
 module _ {T A : Type 0} where
   -- the ring of a drain that has ended: what was not taken is dropped, and the others are rotated
-  pub closed : (old mid new : Ringed T A) (gone t n by : ℕ) → mid ≡ with_written old (drop gone old.items) 0 → n ≡ length mid.items → by ≡ min t n
+  pub closed : (old mid new : Ringed T A) (removed t n by : ℕ) → mid ≡ with_written old (drop removed old.items) 0 → n ≡ length mid.items → by ≡ min t n
       → new ≡ with_written mid (rotated mid.items by) (min by (length mid.items - by))
-      → new ≡ with_written old (rotated (drop gone old.items) t) (min t (length (drop gone old.items) - t))
-  closed old mid new gone t n by left count least turned =
-      let rest : List T = drop gone old.items in let m : ℕ = length rest in
+      → new ≡ with_written old (rotated (drop removed old.items) t) (min t (length (drop removed old.items) - t))
+  closed old mid new removed t n by left count least turned =
+      let rest : List T = drop removed old.items in let m : ℕ = length rest in
       let by-is : by ≡ min t m = least ∙ ap (min t) (count ∙ ap (λ r. length r.items) left) in
       turned ∙ ap (λ r. with_written r (rotated r.items by) (min by (length r.items - by))) left
       ∙ written-twice old rest (rotated rest by) 0 (min by (m - by))

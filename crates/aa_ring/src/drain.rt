@@ -70,17 +70,17 @@ impl<T, A: Allocator> Ring<T, A> {
         }
     }
 
-    // Drops the first `gone` items, or all if there are fewer, and rotates the others to the left
+    // Drops the first `removed` items, or all if there are fewer, and rotates the others to the left
     // by `turn` items, or not if there are fewer.
     #[tactic(auto, using(std::proofs::lemmas::Bool::Decides::nat_tests))]
-    fn close_drain(&mut self, gone: usize, turn: usize)
+    fn close_drain(&mut self, removed: usize, turn: usize)
     where
         T: Drop,
-        ensures { let rest = drop gone self.old.items in
+        ensures { let rest = drop removed self.old.items in
             let moved = min turn (length rest - turn) in
             self.new ≡ with_written self.old (rotated rest turn) moved }
     {
-        self.drop_first(gone);
+        self.drop_first(removed);
         self.rotate_left(turn.min(self.len()));
     }
 }

@@ -108,8 +108,8 @@ impl<T, A: Allocator> Ring<T, A> {
         ensures { let xs = self.old.items in
             self.new ≡ with_written self.old (drop (length xs - len) xs) 0 }
     {
-        let gone = self.len().saturating_sub(len);
-        self.drop_first(gone);
+        let removed = self.len().saturating_sub(len);
+        self.drop_first(removed);
     }
 
     // Drops the first `count` items in order, or all if there are fewer.
