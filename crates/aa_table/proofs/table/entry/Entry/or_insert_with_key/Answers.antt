@@ -1,6 +1,5 @@
 use Rattle.std.proofs.Common.{ap, refl, subst, sym}
 use Rattle.std.specs.Fn.{FnOnceReturnsAt}
-use Rattle.std.specs.Prelude.{None, ◌≡◌}
 use Rattle.std.proofs.lemmas.Result.{IfErr-weaker, IfOk-weaker}
 use Rattle.aa_table.proofs.table.entry.Entry.or_insert_with_key.Goals as goal
 
