@@ -163,9 +163,8 @@ def of_sources():
 def of_types():
     """The same of sizes of types."""
     box, vector, slice_, ring = (size(f"{it}<u64, Global>") for it in ("Box", "Vec", "BoxedSlice", "Ring"))
-    small, bytes_, optional = (size(f"InlineVec<{it}>") for it in ("u64, Global, 4", "u8, Global, 16", "Option<u64>, Global, 4"))
-    yield "docs/DECISIONS.md", "now they take {} and {} (", [small, bytes_]
-    yield "docs/DECISIONS.md", "four of 64 bits make {} bytes", [optional]
+    small, bytes_ = (size(f"InlineVec<{it}>") for it in ("u64, Global, 4", "u8, Global, 16"))
+    yield "docs/DECISIONS.md", "form they take {} and {} (", [small, bytes_]
     yield "docs/DECISIONS.md", "A `Box` is {} bytes over `Global`, and a vector {},", [box, vector]
     yield "docs/DECISIONS.md", "**A boxed slice is {} bytes**", [slice_]
     yield "docs/DIFFERENCES.md", "A `Box` has {} bytes over `Global`, and a vector {},", [box, vector]

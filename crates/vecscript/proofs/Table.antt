@@ -101,7 +101,7 @@ module _ (name : List ℕ) (rest : List (List ℕ)) where
   read-by-tests number (Err fault) unread = (unread.0, λ command said. unread.1 command (row-of-tests command said))
 
   -- where an allocation may fail
-  pub read-by-table-or-fails : (number : ℕ) (r : Result (Command ℕ Global) Fault) → ReadsAsOrOutOfMemory number (SayNamed name rest) r
+  read-by-table-or-fails : (number : ℕ) (r : Result (Command ℕ Global) Fault) → ReadsAsOrOutOfMemory number (SayNamed name rest) r
       → ReadsAsOrOutOfMemory number (Say (name ∷ rest)) r
   read-by-table-or-fails number (Ok command) said = row-of-tests command said
   read-by-table-or-fails number (Err fault) (inl lacks) = inl lacks
@@ -110,3 +110,18 @@ module _ (name : List ℕ) (rest : List (List ℕ)) where
   pub decided-by-table : (b : Bool) → Decides b (SayNamed name rest) → Decides b (Say (name ∷ rest))
   decided-by-table true said = (said.0, row-of-tests said.0 said.1)
   decided-by-table false unsaid = λ command said. unsaid command (tests-of-row command said)
+
+  -- what is read, or decided, after the names `extend` and `splice`
+  pub read-extend : (number : ℕ) (r : Result (Command ℕ Global) Fault) → name ≡ codes "extend" → ReadsAsOrOutOfMemory number (SaysExtend rest) r
+      → ReadsAsOrOutOfMemory number (Say (name ∷ rest)) r
+  read-extend number r is read = read-by-table-or-fails number r (rw is read)
+
+  pub read-splice : (number : ℕ) (r : Result (Command ℕ Global) Fault) → name ≡ codes "splice" → ReadsAsOrOutOfMemory number (SaysSplice rest) r
+      → ReadsAsOrOutOfMemory number (Say (name ∷ rest)) r
+  read-splice number r is read = read-by-table-or-fails number r (rw is read)
+
+  pub decided-extend : (b : Bool) → name ≡ codes "extend" → Decides b (SaysExtend rest) → Decides b (Say (name ∷ rest))
+  decided-extend b is decided = decided-by-table b (rw is decided)
+
+  pub decided-splice : (b : Bool) → name ≡ codes "splice" → Decides b (SaysSplice rest) → Decides b (Say (name ∷ rest))
+  decided-splice b is decided = decided-by-table b (rw is decided)

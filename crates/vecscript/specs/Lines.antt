@@ -66,12 +66,12 @@ IsHint word None = word ≡ codes "-"
 IsHint word (Some n) = Denotes (2 ^ 64) word n
 
 -- the words are a hint, and then elements
-abbrev pub AreExtend : List (List ℕ) → (items : List ℕ) → (hint : Option ℕ) → Type 0
+abbrev pub AreExtend : List (List ℕ) → List ℕ → Option ℕ → Type 0
 AreExtend [] items hint = ⊥
 AreExtend (word ∷ words) items hint = IsHint word hint × AllZip (Denotes (2 ^ 32)) words items
 
 -- the words are where a range begins and ends, a hint, and then elements
-abbrev pub AreSplice : List (List ℕ) → (start end : ℕ) → (items : List ℕ) → (hint : Option ℕ) → Type 0
+abbrev pub AreSplice : List (List ℕ) → ℕ → ℕ → List ℕ → Option ℕ → Type 0
 AreSplice (v ∷ w ∷ words) start end items hint =
     Denotes (2 ^ 64) v start × Denotes (2 ^ 64) w end × AreExtend words items hint
 AreSplice words start end items hint = ⊥
