@@ -20,6 +20,12 @@ module _ {X : Type 0} where
   pub front-lent : (xs ys : List X) (m n : ℕ) → length xs ≡ m → n ≤ m → in_front m n (ys ++ drop n xs) ≡ ys
   front-lent xs ys m n e h = take_at ys (drop n xs) (length (ys ++ drop n xs) - (m - n)) (omega (arith, e, h, length-append ys (drop n xs), length-drop n xs))
 
+  -- items that fill all places are the places
+  pub front-full : (xs : List X) (m n : ℕ) → length xs ≡ m → n ≤ m → length (in_front m n xs) ≡ m → xs ≡ in_front m n xs
+  front-full xs m n e h full =
+      let all : n ≡ m = omega (arith, sym (length-take-le n xs (omega (arith, e, h))), sym (ap length (front xs m n e h)), full) in
+      sym (front xs m n e h ∙ take_all n xs (omega (arith, all, e)))
+
   -- one more of the first, and one of them written anew
   pub take-push : (xs : List X) (n : ℕ) (x : X) → n < length xs → take (n + 1) (slice_set xs n x) ≡ take n xs ++ x ∷ []
   take-push xs n x room = take-set_at xs n (n + 1) x refl room
@@ -103,7 +109,7 @@ module _ {X : Type 0} where
   remove-insert (y ∷ xs) zero x h = refl
   remove-insert (y ∷ xs) (suc k) x h = ap (λ ys. y ∷ ys) (remove-insert xs k x (omega arith))
 
-pub ruleset in_places = (front, front-none, front-lent, nat_tests, length-set, length-take-le, take-push, take-set_in, get-in_front, take-pop)
+pub ruleset in_places = (front, front-none, front-full, front-lent, nat_tests, length-set, length-take-le, take-push, take-set_in, get-in_front, take-pop)
 
 pub ruleset carried = (insert-end, get-insert, remove-insert)
 

@@ -61,6 +61,17 @@ impl<T, const N: usize> Few<T, N> {
         &mut self.places[..self.len]
     }
 
+    /// Returns the array of the items, which must be `N`.
+    pub fn into_places(self) -> [T; N]
+        requires full { length self ≡ N }
+        ensures { result ≡ self }
+    {
+        // This line proves how long the array is.
+        let _all: &[T] = &self.places;
+        let Few { places, len: _ } = self;
+        places
+    }
+
     /// Returns a mutable reference to the item at `index`, which must be below the length.
     pub fn item_mut(&mut self, index: usize) -> &mut T
         requires { index < length self.old }

@@ -182,3 +182,19 @@ fn what_is_left_of_a_range_is_dropped(rt: HostRuntime) {
     }
     assert!(rt; is_all_freed(&heap));
 }
+
+// Returns the items as an array, or how many there are if they don't fill it.
+fn array_of(alloc: Global, items: &[u32]) -> Result<[u32; 3], usize> {
+    let mut v: InlineVec<u32, Global, 3> = InlineVec::new_in(alloc);
+    match v.extend_from_slice(items) {
+        Ok(()) => v.into_inner().map_err(|v| v.len()),
+        Err(_) => Err(0),
+    }
+}
+
+#[test]
+fn items_that_fill_the_places_are_an_array(rt: HostRuntime) {
+    assert!(rt; array_of(rt.alloc(), &[1, 2, 3]) == Ok([1, 2, 3]));
+    assert!(rt; array_of(rt.alloc(), &[1, 2]) == Err(2));
+    assert!(rt; array_of(rt.alloc(), &[1, 2, 3, 4]) == Err(4));
+}

@@ -1,5 +1,5 @@
 //! Conversions of a small vector.
-ghost use Rattle.std.specs.Prelude.{◌≡◌, length, true, IfErr, IfOk, IsOk, OnErr};
+ghost use Rattle.std.specs.Prelude.{◌≡◌, length, false, true, IfErr, IfOk, IsOk, OnErr, OnOk};
 ghost use Rattle.allocator_api2.specs.Errors.{IsErrorFor};
 ghost use Rattle.allocator_api2.specs.declared.raw_vec.Growth.TheVariants.{Doubling};
 
@@ -49,6 +49,36 @@ impl<T: MadeWith<A> + Drop, A: Allocator + Copy, const N: usize> InlineVec<T, A,
                     }),
                 }
             }
+        }
+    }
+}
+
+impl<T, A: Allocator, const N: usize> InlineVec<T, A, N> {
+    /// Returns the items as an array, if they are inline and as many as its length.
+    ///
+    /// Does not allocate.
+    ///
+    /// # Errors
+    /// Otherwise the small vector is returned, as it was.
+    pub fn into_inner(self) -> Result<[T; N], Self>
+        ensures fits { self.spilled ≡ false → length self.items ≡ N → IsOk result }
+        ensures made { IfOk result (λ items. items ≡ self.items) }
+        ensures inline { OnOk result (self.spilled ≡ false) }
+        ensures returned { IfErr result (λ s. s ≡ self) }
+    {
+        let InlineVec { data } = self;
+        match data {
+            Data::InPlace(few, alloc) => {
+                if few.len() == N {
+                    return Ok(few.into_places());
+                }
+                Err(InlineVec {
+                    data: Data::InPlace(few, alloc),
+                })
+            }
+            Data::InBlock(heap) => Err(InlineVec {
+                data: Data::InBlock(heap),
+            }),
         }
     }
 }
