@@ -117,6 +117,12 @@ def fields_in(text, scope):
     return scope.typed("\n".join(inside))
 
 
+# A name that is bound to what a function of a type returns, or a method called, whose result may be bound to a name.
+MADE_OR_CALLED = re.compile(
+    r"let (?:mut )?(\w+) = ((?:\w+::)*\w+)(?:::<[^>]*>)?::\w+\(|(?:let (?:mut )?(\w+) = )?((?:\w+\.)*\w+)\.(\w+)(?:::<[^>]*>)?\("
+)
+
+
 def calls_of(lines, fields, scope, methods):
     """The library's functions that a function calls, each as its type and name. `methods` has the type that each returns, or none."""
     text = "\n".join(line for line in lines if not line.strip().startswith("//"))
@@ -129,7 +135,10 @@ def calls_of(lines, fields, scope, methods):
     for of, name in re.findall(r"\b((?:\w+::)*\w+)(?:::<[^>]*>)?::(\w+)(?:::<[^>]*>)?\(", inside):
         if (scope.type(of), name) in methods:
             found.add((scope.type(of), name))
-    for named, path, name in re.findall(r"(?:let (?:mut )?(\w+) = )?((?:\w+\.)*\w+)\.(\w+)(?:::<[^>]*>)?\(", inside):
+    for let, made, named, path, name in MADE_OR_CALLED.findall(inside):
+        if let:
+            known[let] = scope.type(made) or known.get(let)
+            continue
         parts = path.split(".")
         of = fields.get(parts[-1]) if len(parts) > 1 else known.get(parts[0])
         if of and (of, name) in methods:

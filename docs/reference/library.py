@@ -6,7 +6,7 @@ import callers
 import original
 import toolchain
 from linked import Context, Links, fields_of, names_of_equations, slug
-from sources import all_modules, examples, open_sections, text_of
+from sources import all_modules, examples, open_sections, text_of, without_generics
 from text import reached_words
 from words import CRATES, EXAMPLES, reached, uses
 
@@ -96,7 +96,7 @@ class Library:
             (page.macros if item.kind == "macro" else page.functions).append((section, item))
 
     def add_impl(self, page, section, items):
-        alias = self.aliases.get(re.sub(r"^impl(<.*?>)? ", "", section.head))
+        alias = self.aliases.get(without_generics(section.head))
         there = self.types.get(f"{page.key}::{section.type}") or self.types.get(alias or section.type)
         if not there:
             if items:

@@ -35,8 +35,8 @@ class Section:
     @property
     def trait(self):
         """The trait that it implements for the type, if it does."""
-        found = re.match(r"impl(<.*?>)? ([\w:]+)(<.*)? for ", self.head)
-        return found.group(2) if found else ""
+        found = re.match(r"([\w:]+)(<.*)? for ", without_generics(self.head)) if self.head.startswith("impl") else None
+        return found.group(1) if found else ""
 
 
 class Item:
@@ -69,9 +69,19 @@ def modules(crate):
         yield Module(crate, file, "::".join((crate,) + parts), parts in opened)
 
 
+def without_generics(head):
+    """The head of an `impl` after its own generics, which may have brackets inside."""
+    rest, depth = head.removeprefix("impl"), 0
+    for at, sign in enumerate(rest):
+        depth += (sign == "<") - (sign == ">" and rest[at - 1] != "-")
+        if depth == 0:
+            return rest[at + 1 :].strip() if sign == ">" else rest.strip()
+    return rest
+
+
 def type_of(head):
     """The type that an `impl` is for."""
-    text = head.split(" for ")[-1] if " for " in head else re.sub(r"^impl(<.*?>)? ", "", head)
+    text = head.split(" for ")[-1] if " for " in head else without_generics(head)
     return (re.findall(r"\w+(?:::\w+)*", re.sub(r"^&('\w+ )?(mut )?", "", text)) or [""])[0].split("::")[-1]
 
 
