@@ -576,3 +576,43 @@ fn no_small_vector_grows_past_the_limits(rt: HostRuntime) {
         assert!(rt; seen(&heap, call, 3, 0) == (End::TooLong, 0));
     }
 }
+
+// Doubles each item, and writes to the one at an index and to the first. Returns whether there are
+// such.
+fn writes(v: &mut Small<'_>, index: usize, item: u64) -> bool {
+    for x in v.iter_mut() {
+        *x = x.wrapping_mul(2);
+    }
+    let Some(place) = v.get_mut(index) else {
+        return false;
+    };
+    *place = item;
+    match v.as_mut_slice().first_mut() {
+        Some(first) => *first = 9,
+        None => return false,
+    }
+    true
+}
+
+// The sum of the items, and the one at an index.
+fn sum_and_item(v: &Small<'_>, index: usize) -> (u64, Option<u64>) {
+    let mut sum = 0u64;
+    for x in v.iter() {
+        sum = sum.saturating_add(*x);
+    }
+    (sum, v.get(index).copied())
+}
+
+#[test]
+fn items_are_written_in_place(rt: HostRuntime) {
+    let heap = Faulty::new(rt.alloc());
+    for (count, last, sum, item) in [(2u64, 1, 78, 60), (5, 4, 114, 16)] {
+        let mut v = none(&heap);
+        for x in 0..count {
+            assert!(rt; push(&mut v, x) == End::Done);
+        }
+        // The second call doubles, and finds no item at the index.
+        assert!(rt; writes(&mut v, 1, 30) && !writes(&mut v, 5, 30));
+        assert!(rt; sum_and_item(&v, last) == (sum, Some(item)));
+    }
+}

@@ -349,3 +349,26 @@ fn keys_are_removed_by_their_entries(rt: HostRuntime) {
     assert!(rt; doubled(&mut map, 70) == Some(140) && doubled(&mut map, 20) == Some(1));
     assert!(rt; map.len() == 99 && map.get(&49) == Some(&1) && map.get(&70) == None);
 }
+
+// The value of a key, which is 4 if it was absent.
+fn value_or_four(map: &mut Small<'_>, key: u64) -> Option<u64> {
+    match map.entry(key).or_insert_with(|| 4) {
+        Ok(value) => Some(*value),
+        Err(_) => None,
+    }
+}
+
+// A map whose allocator is cloned.
+fn over_a_clone<'a>(heap: &'a Faulty<Global>) -> Option<Small<'a>> {
+    OrderedMap::try_new_in(heap).ok()
+}
+
+#[test]
+fn an_absent_value_is_made(rt: HostRuntime) {
+    let heap = Faulty::new(rt.alloc());
+    if let Some(mut map) = over_a_clone(&heap) {
+        assert!(rt; value_or_four(&mut map, 3) == Some(4));
+        assert!(rt; map.get_key_value(&3) == Some((&3, &4)) && map.get_key_value(&4).is_none());
+        assert!(rt; map.allocator().requests() == 2);
+    }
+}

@@ -1,8 +1,9 @@
 //! The ring.
-use aa_ring::ring::{Ring, same, same_as_slice};
+use aa_ring::ring::{Ring, compare_items, partial_compare_items, same, same_as_slice};
 use allocator_api2::collections::{TryReserveError, TryReserveErrorKind};
 use allocator_api2::vec::Vec;
 use std::alloc::{AllocError, Global};
+use std::cmp::Ordering;
 use std::default::{Emptied, MadeWith};
 use std::fmt::Debug;
 use std::hash::{DefaultHasher, Hash, Hasher};
@@ -542,5 +543,34 @@ fn rings_print_and_hash_as_their_items(rt: HostRuntime) -> Result<(), Fail> {
     assert!(rt; prints(rt.alloc(), &ring, "[0, 1, 2, 3]")?);
     assert!(rt; prints(rt.alloc(), &ring.iter(), "Iter([0, 1], [2, 3])")?);
     assert!(rt; prints(rt.alloc(), &ring.into_iter(), "IntoIter([0, 1, 2, 3])")?);
+    Ok(())
+}
+
+// Keeps the items above one, and returns how many were tested.
+fn keep_above_one(ring: &mut Small<'_>) -> u32 {
+    let mut tested = 0u32;
+    ring.retain_by(&mut |x: &mut u64| {
+        tested = tested.wrapping_add(1);
+        *x > 1
+    });
+    tested
+}
+
+// How two rings over different allocators compare, by both calls.
+fn compared(left: &Small<'_>, right: &Ring<u64>) -> (Ordering, Option<Ordering>) {
+    (
+        compare_items(left, right),
+        partial_compare_items(left, right),
+    )
+}
+
+#[test]
+fn rings_over_different_allocators_are_compared(rt: HostRuntime) -> Result<(), Fail> {
+    let heap = Faulty::new(rt.alloc());
+    let mut ring: Small<'_> = Ring::new_in(&heap);
+    assert!(rt; takes(&mut ring, 0..4) && keep_above_one(&mut ring) == 4);
+    let mut other: Ring<u64> = Ring::new_in(rt.alloc());
+    other.extend([2, 4])?;
+    assert!(rt; compared(&ring, &other) == (Ordering::Less, Some(Ordering::Less)));
     Ok(())
 }

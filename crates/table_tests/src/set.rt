@@ -224,3 +224,28 @@ fn operators_make_new_sets(rt: HostRuntime) {
     let kind = TryReserveErrorKind::AllocError { capacity: 19 };
     assert!(rt; summed(&left | &right) == Err(kind) && (left.len(), right.len()) == (4, 17));
 }
+
+// An empty set with capacity for ten.
+fn with_capacity(alloc: Global) -> Result<Plain, TryReserveError> {
+    Set::with_capacity_in(10, alloc)
+}
+
+// The sum of the elements.
+fn sum(set: &Plain) -> u64 {
+    let mut sum = 0u64;
+    for value in set.iter() {
+        sum = sum.saturating_add(*value);
+    }
+    sum
+}
+
+#[test]
+fn a_set_is_made_with_capacity_or_a_hasher(rt: HostRuntime) -> Result<(), Fail> {
+    let mut set = with_capacity(rt.alloc())?;
+    set.extend([1, 2, 3])?;
+    assert!(rt; set.capacity() == 14 && sum(&set) == 6);
+    let twin: Plain = Set::with_hasher_in(BuildHasherDefault::default(), rt.alloc());
+    let _hasher: &BuildHasherDefault<FoldHasher> = twin.hasher();
+    assert!(rt; twin.is_empty() && twin.capacity() == 0);
+    Ok(())
+}

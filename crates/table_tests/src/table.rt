@@ -2,7 +2,7 @@
 use aa_table::table::entry::Entry;
 use aa_table::table::{Table, TryInsertError};
 use allocator_api2::boxed::BoxedText;
-use allocator_api2::collections::TryReserveErrorKind;
+use allocator_api2::collections::{TryReserveError, TryReserveErrorKind};
 use allocator_api2::vec::Vec;
 use std::alloc::{AllocError, Global};
 use std::default::{Emptied, MadeWith};
@@ -611,4 +611,16 @@ fn a_key_is_removed_by_its_entry(rt: HostRuntime) {
     assert!(rt; removed_value(&mut table, 6) == Some(6) && removed_value(&mut table, 6) == None);
     assert!(rt; has(&table, 5) == None && has(&table, 7) == Some(7) && table.len() == 12);
     assert!(rt; takes(&mut table, 20..22) && table.capacity() == 14 && heap.requests() == 3);
+}
+
+// A table of pairs of which two have one key.
+fn of_pairs(alloc: Global) -> Result<Table<u64, u64>, TryReserveError> {
+    Table::from_iter_in([(1, 2), (2, 3), (1, 4)], alloc)
+}
+
+#[test]
+fn the_last_value_of_a_key_is_kept(rt: HostRuntime) -> Result<(), Fail> {
+    let table = of_pairs(rt.alloc())?;
+    assert!(rt; table.len() == 2 && table.get(&1) == Some(&4));
+    Ok(())
 }
