@@ -2,6 +2,7 @@
 pub use Rattle.std.proofs.Common.{List, None, Option, Some, [], ap, arith, cond, drop, ext_get_or, false, get_or, get_or-set_other, get_or-set_same, inl, inr, is_some, length, length-append, length-set, refl, rules, set-set, slice_get, slice_set, subst, suc, sym, take, true, zero, ℕ, ◌++◌, ◌+◌, ◌-◌, ◌^◌, ◌<◌, ◌∙◌, ◌∷◌, ◌≡◌, ◌≢◌, ◌≤◌}
 pub use Rattle.std.proofs.lemmas.Bool.{cases_eq, cases_lt}
 pub use Rattle.std.specs.Prelude.{⊤, count_by}
+pub use Rattle.aa_slots.specs.declared.key.Key.{Key}
 pub use Rattle.aa_slots.specs.declared.key.KeyData.{KeyData}
 pub use Rattle.aa_slots.specs.declared.slots.Chain.{Chain}
 pub use Rattle.aa_slots.specs.declared.slots.State.{State}

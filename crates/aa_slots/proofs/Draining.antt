@@ -1,18 +1,18 @@
 -- The slots of a map whose values are removed from either end.
-use Rattle.aa_slots.proofs.Common.{AreFree, AreHeld, Held, KeyData, List, None, Option, Slotted, Some, State, [], ap, arith, cases_eq, cases_lt, entries_from, inl, inr, is_some, length, length-set, refl, rest_of, seen, slice_set, slot_at, state_at, subst, sym, true, value_under, ℕ, ⊤, ◌++◌, ◌+◌, ◌-◌, ◌<◌, ◌∙◌, ◌∷◌, ◌≡◌, ◌≤◌}
+use Rattle.aa_slots.proofs.Common.{AreFree, AreHeld, Held, Key, KeyData, List, None, Option, Slotted, Some, State, [], ap, arith, cases_eq, cases_lt, entries_from, inl, inr, is_some, length, length-set, refl, rest_of, seen, slice_set, slot_at, state_at, subst, sym, true, value_under, ℕ, ⊤, ◌++◌, ◌+◌, ◌-◌, ◌<◌, ◌∙◌, ◌∷◌, ◌≡◌, ◌≤◌}
 use Rattle.aa_slots.proofs.Finds.{length-entries, slot-freed}
 use Rattle.aa_slots.proofs.Remaining.{back-free, rest-above, rest-below, rest-free, rest-last, rest-next, rest-none, rest-whole}
 use Rattle.aa_slots.proofs.Retaining.{within-slots}
 use Rattle.aa_slots.proofs.Seen.{length-seen, slot-free, value-of}
 use Rattle.aa_slots.specs.Absent.{AreAbsent, IsAllWithin}
-use Rattle.aa_slots.specs.Draining.{drain_map, drain_remaining, DrainKeeps, drains_first, drains_last}
+use Rattle.aa_slots.specs.Draining.{drain_map, drain_remaining, drains_first, drains_last, DrainKeeps, DrainsInOrder, DrainsInReverse}
+use Rattle.aa_slots.specs.Keys.{data_pair}
 use Rattle.aa_slots.specs.declared.map.drain.Drain.{Drain}
 use Rattle.std.proofs.Common.{get_or-set_other, min}
-use Rattle.std.proofs.iter.runs.Sources.{as_is, as_is_back, from_back, from_front}
+use Rattle.std.proofs.iter.runs.Sources.{from_back, from_front}
 use Rattle.std.proofs.lemmas.Bool.Decides.{nat_tests}
 use Rattle.std.proofs.lemmas.List.{get_or_past}
 use Rattle.std.specs.Iterator.{Yields}
-use Rattle.std.specs.Iterator.Runs.{YieldsInOrder, YieldsInReverse}
 
 module _ {T : Type 0} where
   -- the slot of a key by its state, and free slots
@@ -136,20 +136,19 @@ module _ {T A K : Type 0} where
     others = k.others ∙ ap {A = Slotted T} (λ m. record m { slots = (drain_map f).slots }) h.others;
   }
 
-  pub keeps-along : (d : Drain T A K) (xs : List (KeyData × T)) (later : Drain T A K)
+  pub keeps-along : (d : Drain T A K) (xs : List (Key K × T)) (later : Drain T A K)
       → Yields drains_first d xs later → DrainKeeps d later
   keeps-along d [] later y = subst (DrainKeeps d) y (keeps-same d)
   keeps-along d (x ∷ xs) later y = keeps-then d y.0 later y.1.0 (keeps-along y.0 xs later y.2)
 
   -- what calls of `next` return, and calls of `next_back`
-  pub drained-in_order : YieldsInOrder (drains_first {T = T} {A = A} {K = K}) drain_remaining
-  drained-in_order p s = as_is p (drain_remaining p.from)
-      (from_front (drains_first {T = T} {A = A} {K = K}) (λ x. x) drain_remaining (λ d e h. ap length h.1.0) (λ d x e h. h.2) p s)
+  pub drained-in_order : DrainsInOrder T A K
+  drained-in_order = from_front (drains_first {T = T} {A = A} {K = K}) data_pair drain_remaining
+      (λ d e h. ap length h.1.0) (λ d x e h. h.2)
 
-  pub drained-in_reverse : YieldsInReverse (drains_last {T = T} {A = A} {K = K}) drain_remaining
-  drained-in_reverse p s = as_is_back p (drain_remaining p.from)
-      (from_back (drains_last {T = T} {A = A} {K = K}) (λ x. x) drain_remaining
-      (λ d e h. ap length h.1.0) (λ d x e h. h.2) p s)
+  pub drained-in_reverse : DrainsInReverse T A K
+  drained-in_reverse = from_back (drains_last {T = T} {A = A} {K = K}) data_pair drain_remaining
+      (λ d e h. ap length h.1.0) (λ d x e h. h.2)
 
 pub ruleset between = (nat_tests, found-held, absent-free, absent-cut)
 

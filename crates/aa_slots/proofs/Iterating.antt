@@ -21,10 +21,11 @@ module _ {T : Type 0} where
   entries-push i j (None ∷ ss) o e = entries-push (i + 1) j ss o (omega (arith, e))
   entries-push i j (Some s ∷ ss) o e = ap (λ zs. (record { index = i; serial = s.0 }, s.1) ∷ zs) (entries-push (i + 1) j ss o (omega (arith, e)))
 
-  pub in-order : YieldsPairsInOrder T
+module _ {T K : Type 0} where
+  pub in-order : YieldsPairsInOrder T K
   in-order = from_front (YieldsFirstBy pair_of (λ rest. rest)) pair_of (λ s. s) (λ s t h. ap length h.0) (λ s x t h. h)
 
-  pub in-reverse : YieldsPairsInReverse T
+  pub in-reverse : YieldsPairsInReverse T K
   in-reverse = from_back (YieldsLastBy pair_of (λ rest. rest)) pair_of (λ s. s) (λ s t h. ap length h.0) (λ s x t h. h)
 
 pub ruleset walked = (length-entries, in-order, in-reverse)

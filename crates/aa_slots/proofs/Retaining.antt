@@ -1,8 +1,9 @@
 -- The slots while `retain` passes over them.
-use Rattle.aa_slots.proofs.Common.{KeyData, List, None, Option, Slotted, Some, [], ap, arith, cond, entries_from, false, find, length, length-set, refl, slice_set, slot_at, suc, sym, true, value_under, with_value, zero, ℕ, ◌++◌, ◌+◌, ◌<◌, ◌∙◌, ◌∷◌, ◌≡◌, ◌≤◌}
+use Rattle.aa_slots.proofs.Common.{Key, KeyData, List, None, Option, Slotted, Some, [], ap, arith, cond, entries_from, false, find, length, length-set, refl, slice_set, slot_at, suc, sym, true, value_under, with_value, zero, ℕ, ◌++◌, ◌+◌, ◌<◌, ◌∙◌, ◌∷◌, ◌≡◌, ◌≤◌}
 use Rattle.std.proofs.Common.{Bool, MutBor, drop, option_map, subst, take}
 use Rattle.std.proofs.lemmas.Bool.Decides.{nat_tests}
 use Rattle.std.proofs.lemmas.List.{append-nil, append_assoc, drop-set-lt, drop_all, drop_more, get_or-set_same, take_all, take_more, take_more_set}
+use Rattle.aa_slots.specs.Keys.{key_of}
 use Rattle.aa_slots.specs.Retaining.{Keeps, MayReturn}
 use Rattle.std.specs.Prelude.{if◌then◌else◌}
 
@@ -38,7 +39,7 @@ module _ {T : Type 0} where
       let same : k.index ≡ i = grind (arith, e) in
       (same, rw same at (under-some (slot_at ss k.index) k.serial x h))
 
-module _ {T F : Type 0} (step : F → KeyData → MutBor T → Bool → MutBor T → F → Type 0) where
+module _ {T F K : Type 0} (step : F → Key K → MutBor T → Bool → MutBor T → F → Type 0) where
   -- `f` was called for each key of the slots from index `i` on, in order, and is `g` then; the
   -- slots are `kept` then: a value for which it returned `true` is as the call left it, and others
   -- are removed
@@ -53,7 +54,7 @@ module _ {T F : Type 0} (step : F → KeyData → MutBor T → Bool → MutBor T
       × (kept ≡ (if keep then Some (e.0, y) else None) ∷ others) × KeepsSlots next (i + 1) ss others g
 
   pub may-return : (f : F) (k : KeyData) (before : MutBor T) (keep : Bool) (after : MutBor T) (g : F)
-      → step f k before keep after g → MayReturn step f k before.now keep after.now g
+      → step f (key_of k) before keep after g → MayReturn step f k before.now keep after.now g
   may-return f k before keep after g call =
       record { before = before; given = refl; after = after; left = refl; call = call }
 

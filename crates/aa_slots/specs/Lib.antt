@@ -1,3 +1,4 @@
+pub mod Keys
 pub mod Slotted
 pub mod Absent
 pub mod Inside

@@ -55,7 +55,8 @@ impl<'a, T: Drop, A: Allocator, K> CursorMut<'a, T, A, K> {
 
     /// Returns the key of the next value, or `None` if none remains.
     pub fn peek_key(&self) -> Option<Key<K>>
-        ensures { result ≡ option_map (λ e. e.0) (slice_get (remaining self.now) 0) }
+        ensures { option_map (λ k. k.parts) result
+            ≡ option_map (λ e. e.0) (slice_get (remaining self.now) 0) }
     {
         let data = self.map.key_from(self.at)?;
         Some(Key::from(data))

@@ -1,8 +1,9 @@
 //! The iterator by value over the keys and values of a slot map.
 ghost use Rattle.std.specs.Prelude.{◌≡◌, length, Some, IfSome};
-ghost use Rattle.std.specs.Iterator.{YieldsFirst, YieldsLast, UpTo, item_count};
+ghost use Rattle.std.specs.Iterator.{YieldsFirstBy, YieldsLastBy, UpTo, item_count};
 ghost use Rattle.std.specs.Iterator.SizeHint.{IsWithinCount};
 ghost use Rattle.aa_slots.specs.Inside.{seen, states_of, AreHeld};
+ghost use Rattle.aa_slots.specs.Keys.{data_pair};
 ghost use Rattle.aa_slots.specs.Slotted.{count, entries_from};
 
 use crate::blocks::drop_between;
@@ -81,7 +82,7 @@ impl<T: Drop, A: Allocator, K> Drop for IntoIter<T, A, K> {
 impl<T: Drop, A: Allocator, K> Iterator for IntoIter<T, A, K> {
     type Item = (Key<K>, T);
 
-    ghost next_gives = { YieldsFirst (λ rest. rest) };
+    ghost next_gives = { YieldsFirstBy data_pair (λ rest. rest) };
 
     ghost remaining = { item_count (λ rest. rest) };
 
@@ -105,7 +106,7 @@ impl<T: Drop, A: Allocator, K> Iterator for IntoIter<T, A, K> {
 }
 
 impl<T: Drop, A: Allocator, K> DoubleEndedIterator for IntoIter<T, A, K> {
-    ghost next_back_gives = { YieldsLast (λ rest. rest) };
+    ghost next_back_gives = { YieldsLastBy data_pair (λ rest. rest) };
 
     /// Returns the last of the remaining keys with its value, or `None` if none remains.
     #[tactic(auto, using(crate::proofs::Remaining::from_last))]

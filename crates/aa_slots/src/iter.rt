@@ -1,6 +1,6 @@
 //! Iterators over the keys and values of a slot map.
 ghost use Rattle.std.specs.Prelude.{◌≡◌, length, Some, IfSome, ⊤};
-ghost use Rattle.std.specs.Iterator.{YieldsFirst, YieldsFirstBy, YieldsLast, YieldsLastBy, UpTo, item_count};
+ghost use Rattle.std.specs.Iterator.{YieldsFirstBy, YieldsLastBy, UpTo, item_count};
 ghost use Rattle.std.specs.Iterator.SizeHint.{IsWithinCount};
 ghost use Rattle.aa_slots.specs.Iterating.{pair_of, YieldsPairsInOrder, YieldsPairsInReverse};
 ghost use Rattle.aa_slots.specs.Inside.{seen, AreHeld};
@@ -161,7 +161,7 @@ impl<'a, T, A: Allocator, K> Model for Keys<'a, T, A, K> {
 impl<'a, T, A: Allocator, K> Iterator for Keys<'a, T, A, K> {
     type Item = Key<K>;
 
-    ghost next_gives = { YieldsFirst (λ rest. rest) };
+    ghost next_gives = { YieldsFirstBy (λ key. key.parts) (λ rest. rest) };
 
     ghost remaining = { item_count (λ rest. rest) };
 
@@ -184,7 +184,7 @@ impl<'a, T, A: Allocator, K> Iterator for Keys<'a, T, A, K> {
 }
 
 impl<'a, T, A: Allocator, K> DoubleEndedIterator for Keys<'a, T, A, K> {
-    ghost next_back_gives = { YieldsLast (λ rest. rest) };
+    ghost next_back_gives = { YieldsLastBy (λ key. key.parts) (λ rest. rest) };
 
     /// Returns the last of the remaining keys, or `None` if none remains.
     fn next_back(&mut self) -> Option<Key<K>> {
@@ -271,7 +271,7 @@ impl<'a, T, A: Allocator, K> IntoIterator for &'a SlotMap<T, A, K> {
     type IntoIter = Iter<'a, T, A, K>;
 
     ghost into_iter_gives = { λ m i. (i ≡ entries m.now) × (length i ≡ count m.now.slots)
-        × YieldsPairsInOrder T × YieldsPairsInReverse T };
+        × YieldsPairsInOrder T K × YieldsPairsInReverse T K };
 
     fn into_iter(self) -> Iter<'a, T, A, K> {
         self.iter()

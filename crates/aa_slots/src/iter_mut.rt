@@ -69,7 +69,7 @@ impl<'a, T, K> IterMut<'a, T, K> {
 impl<'a, T, K> Iterator for IterMut<'a, T, K> {
     type Item = (Key<K>, &'a mut T);
 
-    ghost next_gives = { YieldsFirstBy (λ item. (item.0, item.1.now)) (λ it. it.entries) };
+    ghost next_gives = { YieldsFirstBy (λ item. (item.0.parts, item.1.now)) (λ it. it.entries) };
 
     ghost remaining = { item_count (λ it. it.entries) };
 
@@ -93,7 +93,7 @@ impl<'a, T, K> Iterator for IterMut<'a, T, K> {
 }
 
 impl<'a, T, K> DoubleEndedIterator for IterMut<'a, T, K> {
-    ghost next_back_gives = { YieldsLastBy (λ item. (item.0, item.1.now)) (λ it. it.entries) };
+    ghost next_back_gives = { YieldsLastBy (λ item. (item.0.parts, item.1.now)) (λ it. it.entries) };
 
     /// Returns the last of the remaining keys with a mutable reference to its value, or `None` if
     /// none remains.

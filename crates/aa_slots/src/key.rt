@@ -1,6 +1,6 @@
 //! The keys of slot maps.
 ghost use Rattle.std.specs.Prelude.{◌≡◌};
-ghost use Rattle.aa_slots.specs.declared.key.KeyData.{KeyData};
+ghost use Rattle.aa_slots.specs.Keys.{key_of};
 
 use std::alloc::AllocError;
 use std::cmp::Ordering;
@@ -8,7 +8,7 @@ use std::default::Default;
 use std::fmt;
 use std::fmt::{Debug, Formatter};
 use std::hash::{Hash, Hasher};
-use std::marker::{Model, PhantomData};
+use std::marker::PhantomData;
 
 /// What a key consists of, whatever its kind: the index of its slot, and its serial, the number of
 /// keys issued before it.
@@ -21,39 +21,29 @@ pub struct KeyData {
 /// A key of one value in the map that issued it.
 ///
 /// It consists of the index of its slot, and its serial: the number of keys issued before it. Keys
-/// are ordered by these two. A contract sees a key as its `KeyData`.
+/// are ordered by these two. A contract names its `KeyData` as `parts`.
 ///
 /// `K` is its kind, any type: a map takes keys of its own kind only. A key is `Copy` if its kind
 /// is. It does not identify its map: in another map of the same kind it may find a value.
 #[derive(Drop)]
 #[derive_where(PartialEq, Eq, PartialOrd, Ord, Hash)]
 pub struct Key<K = ()> {
-    parts: KeyData,
-    kind: PhantomData<K>,
-}
-
-impl<K> Model for Key<K> {
-    ghost use Rattle.aa_slots.specs.declared.key.KeyData.{KeyData};
-
-    ghost Value = { KeyData };
-
-    ghost view = { λ k. k.parts };
-
-    ghost inverse = { λ d. record { parts = d; kind = record {} } };
+    pub(crate) parts: KeyData,
+    pub(crate) kind: PhantomData<K>,
 }
 
 impl<K> Key<K> {
     /// Returns the data of the key.
     #[inline(always)]
     pub fn data(self) -> KeyData
-        ensures { result ≡ self }
+        ensures { result ≡ self.parts }
     {
         self.parts
     }
 }
 
 impl<K> From<KeyData> for Key<K> {
-    ghost from_gives = { λ parts k. k ≡ parts };
+    ghost from_gives = { λ d k. k ≡ key_of d };
 
     /// Returns the key that consists of `data`.
     #[inline(always)]

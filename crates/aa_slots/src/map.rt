@@ -128,7 +128,7 @@ impl<T, A: Allocator, K> SlotMap<T, A, K> {
 
     /// Returns a reference to the value of `key`, or `None` if it has none.
     pub fn get(&self, key: Key<K>) -> Option<&T>
-        ensures { option_copied result ≡ find self.now key }
+        ensures { option_copied result ≡ find self.now key.parts }
     {
         let key = key.data();
         if self.holds(key) {
@@ -140,7 +140,7 @@ impl<T, A: Allocator, K> SlotMap<T, A, K> {
 
     /// Returns `true` if the map has a value for `key`.
     pub fn contains_key(&self, key: Key<K>) -> bool
-        ensures { result ≡ is_some (find self.now key) }
+        ensures { result ≡ is_some (find self.now key.parts) }
     {
         self.holds(key.data())
     }
@@ -155,8 +155,9 @@ impl<T, A: Allocator, K> SlotMap<T, A, K> {
 
     /// Returns a mutable reference to the value of `key`, or `None` if it has none.
     pub fn get_mut(&mut self, key: Key<K>) -> Option<&mut T>
-        ensures* writes_back { sem 𝓛 (lends_value T.row A.row K.row A.Allocator self.entry key result) }
-        ensures value { option_copied_mut result ≡ find self.old key }
+        ensures* writes_back { sem 𝓛
+            (lends_value T.row A.row K.row A.Allocator self.entry key.parts result) }
+        ensures value { option_copied_mut result ≡ find self.old key.parts }
     {
         let key = key.data();
         if self.holds(key) {
@@ -171,8 +172,8 @@ impl<T, A: Allocator, K> SlotMap<T, A, K> {
     pub fn iter(&self) -> Iter<'_, T, A, K>
         ensures all { result ≡ entries self.now }
         ensures count { length result ≡ count self.now.slots }
-        ensures in_order { YieldsPairsInOrder T }
-        ensures in_reverse { YieldsPairsInReverse T }
+        ensures in_order { YieldsPairsInOrder T K }
+        ensures in_reverse { YieldsPairsInReverse T K }
     {
         Iter::over(slots_in(&self.slots), &self.values, self.len())
     }
@@ -274,12 +275,12 @@ impl<T: Drop, A: Allocator + Clone, K> SlotMap<T, A, K> {
         ensures fits { HasRoom self.old 1 → self.old.issued < 2 ^ 63 → IsOk result }
 
         // On success, the key is new and finds the value; the other keys find what they found.
-        ensures put { IfOk result (λ k. Puts self.old.slots k value self.new.slots) }
-        ensures fresh { IfOk result (λ k. k.serial ≡ self.old.issued) }
+        ensures put { IfOk result (λ k. Puts self.old.slots k.parts value self.new.slots) }
+        ensures fresh { IfOk result (λ k. k.parts.serial ≡ self.old.issued) }
         ensures issued { OnOk result (self.new.issued ≡ self.old.issued + 1) }
-        ensures found { IfOk result (λ k. find self.new k ≡ Some value) }
+        ensures found { IfOk result (λ k. find self.new k.parts ≡ Some value) }
         ensures others { IfOk result
-            (λ k. (j : KeyData) → j ≢ k → find self.new j ≡ find self.old j) }
+            (λ k. (j : KeyData) → j ≢ k.parts → find self.new j ≡ find self.old j) }
 
         // There is one value more, and the capacity grows only if the map was full.
         ensures count { OnOk result (count self.new.slots ≡ count self.old.slots + 1) }
@@ -322,13 +323,13 @@ impl<T: Drop, A: Allocator, K> SlotMap<T, A, K> {
     #[inline]
     pub fn remove(&mut self, key: Key<K>) -> Option<T>
         // It returns the value of the key. If there was none, nothing changes.
-        ensures value { result ≡ find self.old key }
-        ensures removed { IfSome result (λ _. self.new ≡ without self.old key) }
+        ensures value { result ≡ find self.old key.parts }
+        ensures removed { IfSome result (λ _. self.new ≡ without self.old key.parts) }
         ensures none { IfNone result (self.new ≡ self.old) }
 
         // The key then has no value; the other keys find what they found.
-        ensures absent { find self.new key ≡ None }
-        ensures others { (j : KeyData) → j ≢ key → find self.new j ≡ find self.old j }
+        ensures absent { find self.new key.parts ≡ None }
+        ensures others { (j : KeyData) → j ≢ key.parts → find self.new j ≡ find self.old j }
         ensures count { IfSome result (λ _. count self.new.slots + 1 ≡ count self.old.slots) }
     {
         let key = key.data();

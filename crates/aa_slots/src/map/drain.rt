@@ -3,6 +3,7 @@ ghost use Rattle.std.specs.Prelude.{◌≡◌, ◌++◌, ◌∷◌, ◌+◌, ◌
 ghost use Rattle.std.specs.Iterator.{UpTo, item_count};
 ghost use Rattle.std.specs.Iterator.SizeHint.{IsWithinCount};
 ghost use Rattle.aa_slots.specs.Absent.{AreAbsent, IsAllWithin};
+ghost use Rattle.aa_slots.specs.Keys.{data_pair};
 ghost use Rattle.aa_slots.specs.Slotted.{cleared, count, entries, find, without};
 
 use crate::map::{Key, KeyData, SlotMap};
@@ -26,9 +27,8 @@ pub struct Drain<'a, T, A: Allocator, K = ()> {
 impl<T: Drop, A: Allocator, K> SlotMap<T, A, K> {
     ghost use Rattle.std.specs.Prelude.{List};
     ghost use Rattle.std.specs.Iterator.{Yields};
-    ghost use Rattle.std.specs.Iterator.Runs.{YieldsInOrder, YieldsInReverse};
-    ghost use Rattle.aa_slots.specs.Draining.{drain_lender, drain_map, drain_remaining, DrainKeeps, drains_first, drains_last};
-    ghost use Rattle.aa_slots.specs.declared.key.KeyData.{KeyData};
+    ghost use Rattle.aa_slots.specs.Draining.{drain_lender, drain_map, drain_remaining, drains_first, DrainKeeps, DrainsInOrder, DrainsInReverse};
+    ghost use Rattle.aa_slots.specs.declared.key.Key.{Key};
     ghost use Rattle.aa_slots.specs.declared.map.drain.Drain.{Drain};
 
     /// Removes all values, and returns a double-ended iterator over the keys and their values, in
@@ -44,10 +44,10 @@ impl<T: Drop, A: Allocator, K> SlotMap<T, A, K> {
         ensures count { length (drain_remaining result) ≡ count self.old.slots }
 
         // Calls of `next` and `next_back` take values from either end, and keep all else.
-        ensures kept { (xs : List (KeyData × T)) (later : Drain T A K)
+        ensures kept { (xs : List (Key K × T)) (later : Drain T A K)
             → Yields drains_first result xs later → DrainKeeps result later }
-        ensures in_order { YieldsInOrder (drains_first {T = T} {A = A} {K = K}) drain_remaining }
-        ensures in_reverse { YieldsInReverse (drains_last {T = T} {A = A} {K = K}) drain_remaining }
+        ensures in_order { DrainsInOrder T A K }
+        ensures in_reverse { DrainsInReverse T A K }
     {
         let end = self.slot_count();
         Drain {
@@ -101,8 +101,8 @@ impl<T: Drop, A: Allocator, K> SlotMap<T, A, K> {
         requires { IsAllWithin self.old.slots at.old end }
         ensures within { IsAllWithin self.new.slots at.new end }
         ensures removed { MatchOption result ((entries self.old ≡ []) × (self.new ≡ self.old))
-            (λ e. self.new ≡ without self.old e.0) }
-        ensures taken { IfSome result (λ e. entries self.old ≡ e ∷ entries self.new) }
+            (λ e. self.new ≡ without self.old e.0.parts) }
+        ensures taken { IfSome result (λ e. entries self.old ≡ data_pair e ∷ entries self.new) }
     {
         let key = self.first_between(*at, end)?;
         *at = key.index + 1;
@@ -115,8 +115,8 @@ impl<T: Drop, A: Allocator, K> SlotMap<T, A, K> {
         requires { IsAllWithin self.old.slots at end.old }
         ensures within { IsAllWithin self.new.slots at end.new }
         ensures removed { MatchOption result ((entries self.old ≡ []) × (self.new ≡ self.old))
-            (λ e. self.new ≡ without self.old e.0) }
-        ensures taken { IfSome result (λ e. entries self.old ≡ entries self.new ++ e ∷ []) }
+            (λ e. self.new ≡ without self.old e.0.parts) }
+        ensures taken { IfSome result (λ e. entries self.old ≡ entries self.new ++ data_pair e ∷ []) }
     {
         let key = self.last_between(at, *end)?;
         *end = key.index;

@@ -2,6 +2,7 @@
 ghost use Rattle.std.specs.Prelude.{◌≡◌, ◌≢◌, ◌+◌, ◌<◌, ◌^◌, is_some, nat_lt, if◌then◌else◌, true, IfErr, IfOk, IfSome, IsOk, OnErr, OnOk};
 ghost use Rattle.allocator_api2.specs.Errors.{IsErrorFor};
 ghost use Rattle.aa_slots.specs.Slotted.{count, find, grown, HasRoom, Puts};
+ghost use Rattle.aa_slots.specs.declared.key.Key.{Key};
 ghost use Rattle.aa_slots.specs.declared.key.KeyData.{KeyData};
 
 use super::KEYS;
@@ -23,21 +24,21 @@ impl<T: Drop, A: Allocator + Clone, K> SlotMap<T, A, K> {
         &mut self,
         f: F,
     ) -> Result<Key<K>, TryReserveError>
-        requires callable { (k : KeyData) → k.serial ≡ self.old.issued → F.pre f k }
+        requires callable { (k : Key K) → k.parts.serial ≡ self.old.issued → F.pre f k }
 
         // If the map is not full, and keys remain to be issued, it succeeds.
         ensures fits { HasRoom self.old 1 → self.old.issued < 2 ^ 63 → IsOk result }
 
         // On success, the key is new and finds what `f` returned for it; the other keys find what
         // they found.
-        ensures found { IfOk result (λ k. is_some (find self.new k) ≡ true) }
-        ensures called { IfOk result (λ k. IfSome (find self.new k) (F.post f k)) }
-        ensures put { IfOk result (λ k. IfSome (find self.new k)
-            (λ x. Puts self.old.slots k x self.new.slots)) }
-        ensures fresh { IfOk result (λ k. k.serial ≡ self.old.issued) }
+        ensures found { IfOk result (λ k. is_some (find self.new k.parts) ≡ true) }
+        ensures called { IfOk result (λ k. IfSome (find self.new k.parts) (F.post f k)) }
+        ensures put { IfOk result (λ k. IfSome (find self.new k.parts)
+            (λ x. Puts self.old.slots k.parts x self.new.slots)) }
+        ensures fresh { IfOk result (λ k. k.parts.serial ≡ self.old.issued) }
         ensures issued { OnOk result (self.new.issued ≡ self.old.issued + 1) }
         ensures others { IfOk result
-            (λ k. (j : KeyData) → j ≢ k → find self.new j ≡ find self.old j) }
+            (λ k. (j : KeyData) → j ≢ k.parts → find self.new j ≡ find self.old j) }
 
         // There is one value more, and the capacity grows only if the map was full.
         ensures count { OnOk result (count self.new.slots ≡ count self.old.slots + 1) }

@@ -15,9 +15,9 @@ use std::ops::{Index, IndexMut};
 impl<T: Drop, A: Allocator, K> Index<Key<K>> for SlotMap<T, A, K> {
     type Output = T;
 
-    ghost can_index = { λ m k. is_some (find m k) ≡ true };
+    ghost can_index = { λ m k. is_some (find m k.parts) ≡ true };
 
-    ghost index_gives = { λ m k x. find m k ≡ Some x };
+    ghost index_gives = { λ m k x. find m k.parts ≡ Some x };
 
     /// Returns a reference to the value of `key`, which has one.
     fn index(&self, key: Key<K>) -> &T {
@@ -33,9 +33,10 @@ impl<T: Drop, A: Allocator, K> IndexMut<Key<K>> for SlotMap<T, A, K> {
 
     /// Returns a mutable reference to the value of `key`, which has one.
     fn index_mut(&mut self, key: Key<K>) -> &mut T
-        requires { is_some (find self.old key) ≡ true }
-        ensures* writes_back { sem 𝓛 (lends_there T.row A.row K.row A.Allocator self.entry key result) }
-        ensures value { find self.old key ≡ Some result.now }
+        requires { is_some (find self.old key.parts) ≡ true }
+        ensures* writes_back { sem 𝓛
+            (lends_there T.row A.row K.row A.Allocator self.entry key.parts result) }
+        ensures value { find self.old key.parts ≡ Some result.now }
     {
         match self.get_mut(key) {
             Some(value) => value,

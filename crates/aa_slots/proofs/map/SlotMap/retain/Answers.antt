@@ -1,5 +1,6 @@
 use Rattle.std.proofs.Common.{None, Some, ap, arith, cond, of_calls, refl, set-set, sym, ◌∙◌, ◌≡◌}
 use Rattle.std.specs.Prelude.{slice_set}
+use Rattle.aa_slots.specs.declared.key.Key.{Key}
 use Rattle.aa_slots.specs.Slotted.{find, slot_at}
 use Rattle.aa_slots.proofs.Retaining.{called-slot, may-return, pairs-kept, passed-all, passed-called}
 use Rattle.aa_slots.proofs.map.SlotMap.retain.Goals.{then-not-f, else-not-f}
@@ -10,7 +11,7 @@ each-preserved g c =
     let at = c.each in let slots = at.self.slots in let inv = at.invariant in
     let key = c.in-Some.key in let left = c.f.new.arg3 in
     let value = c.index_mut.result in let keyed = sym c.key_at.ensures ∙ c.in-Some.is in
-    let here = called-slot slots at.index key value.now (slot_at slots at.index) refl keyed (sym (ap (λ k. find at.self k) c.from-in-each.ensures) ∙ c.index_mut.ensures.value) in
+    let here = called-slot slots at.index key value.now (slot_at slots at.index) refl keyed (sym (ap (λ (k : Key _). find at.self k.parts) c.from-in-each.ensures) ∙ c.index_mut.ensures.value) in
     let written : c.if-not-f.self
     ≡ record at.self {
       slots = slice_set slots key.index (cond c.f.result (Some (key.serial, left)) None);
@@ -19,7 +20,7 @@ each-preserved g c =
       | then-not-f w ↦ rw (w.self-is, w.if-not-f.true, w.discard.ensures, c.from-in-each.ensures, set-set) refl
       | else-not-f w ↦ rw (w.self-is, w.if-not-f.false, c.from-in-each.ensures) refl
     ] in
-    let call = rw c.from.ensures at (may-return (goal.F-step g) at.f c.from.result value c.f.result _ c.f.new.self c.f.ensures) in (
+    let call = may-return (goal.F-step g) at.f key value c.f.result _ c.f.new.self (rw c.from.ensures at c.f.ensures) in (
       search of_calls,
       ap (λ m. m.capacity) written ∙ inv.1,
       ap (λ m. m.issued) written ∙ inv.2,
