@@ -181,6 +181,8 @@ def of_bench():
     yield "README.md", "by more than a tenth in {} of {} cases, and slower in {}.", [ahead("toolchain"), ("cases", len(cases())), slower("toolchain")]
     yield "README.md", "Rust's std is ahead in {}, and slower in {}.", [ahead("std"), slower("std")]
     yield "bench/README.md", "{} cases are measured over this library", [("cases", len(cases()))]
+    listed = re.findall(r"(?m)^(\w+):? ", text_of(TOP / "bench" / "cases"))
+    yield "bench/README.md", "`bench/cases` has {} cases that came after", [("cases", len(set(listed) - set(cases())))]
     yield "bench/README.md", "Of the {} cases that also run over the original, ours takes at most 1.05 times its instructions in {}.", list(as_original())[::-1]
     yield "bench/README.md", "than 1.1 times its time in {}.", [ahead("original")]
     yield "bench/README.md", "std is ahead by more than a tenth in {} of the {} cases, and slower in {}.", [ahead("std"), ("cases", len(cases())), slower("std")]
