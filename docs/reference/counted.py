@@ -194,6 +194,8 @@ def of_bench():
     yield "bench/README.md", "over the original, and {} over std", [takes("gap_typing", "std")]
     yield "bench/README.md", "std takes {} of `pieces_of_4`", [taken("pieces_of_4", "std", "instructions")]
     yield "bench/README.md", "by time it takes {}, since", [taken("pieces_of_4", "std")]
+    yield "docs/EXAMPLES.md", "; {} times as long in `table_hit`", [takes("table_hit", "toolchain")]
+    yield "docs/EXAMPLES.md", "{} times as long as Rust's.", [takes("table_hit", "std")]
     yield "bench/README.md", "| 100,000 | {}, {} | {}, {} | {}, {} | {}, {} |", of_table
 
 
