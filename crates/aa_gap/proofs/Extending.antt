@@ -4,6 +4,7 @@ use Rattle.aa_gap.proofs.Pages.{Edits-known}
 use Rattle.aa_gap.specs.Buffer.{moved_to, LacksRoom}
 use Rattle.aa_gap.specs.Extending.{Inserts, IsCopy, InsertsClones, ExtendFails, FailsAtItem}
 use Rattle.aa_raw.specs.Growth.{new_capacity}
+use Rattle.aa_raw.specs.Growths.{of_new}
 use Rattle.aa_raw.specs.declared.collections.TryReserveError.{TryReserveError}
 use Rattle.std.proofs.Math.Seq.{take-append_seam, drop-append_seam}
 use Rattle.std.proofs.lemmas.List.{append-nil}
@@ -76,7 +77,7 @@ module _ {T A : Type 0} (clones : T → T → Type 0) (size : ℕ) (b : Buffer T
     after = [];
     capacity = new_capacity size (len b);
     growth = b.growth;
-    grown = 0;
+    grown = of_new size (len b);
     written = 0 + length b.before + length b.after;
     runs = 0 + length b.before + length b.after;
     alloc = a;
@@ -112,7 +113,7 @@ module _ {T A : Type 0} (clones : T → T → Type 0) (size : ℕ) (b : Buffer T
 module _ {T A : Type 0} (clones : T → T → Type 0) (size : ℕ) (b none mid all : Buffer T A)
     (first : InsertsClones clones none b.before mid)
     (second : InsertsClones clones mid b.after all) (a : A)
-    (new : none ≡ empty (new_capacity size (len b)) b.growth a) where
+    (new : none ≡ empty size (len b) b.growth a) where
   all-is : all ≡ cloned clones size b first.added second.added a first.each second.each
   all-is = second.parts ∙ rw (first.parts, new) refl
 

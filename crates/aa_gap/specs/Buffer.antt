@@ -3,7 +3,8 @@ use Rattle.std.specs.Prelude.{ℕ, ◌+◌, ◌-◌, ◌*◌, ◌≤◌, max, Li
 use Rattle.aa_raw.specs.declared.raw_vec.Growth.{Growth}
 use Rattle.aa_raw.specs.declared.raw_vec.Growth.TheVariants.{Doubling, Sparing, InPlace}
 use Rattle.aa_raw.specs.declared.collections.TryReserveError.{TryReserveError}
-use Rattle.aa_raw.specs.Growth.{amortized, min_capacity}
+use Rattle.aa_raw.specs.Growth.{amortized, min_capacity, new_capacity}
+use Rattle.aa_raw.specs.Growths.{Growths, of_new, with_growth}
 pub use Rattle.aa_raw.specs.Room.{run_count, moved_over}
 use Rattle.aa_raw.specs.Room as Room
 
@@ -14,21 +15,22 @@ pub record Buffer (T A : Type 0) : Type 0 where
   pub after : List T
   pub capacity : ℕ  -- how many elements fit
   pub growth : Growth
-  pub grown : ℕ  -- elements moved by growth so far
+  pub grown : Growths  -- what its memory has cost so far
   pub written : ℕ  -- elements written into places so far
   pub runs : ℕ  -- calls that wrote any
   pub alloc : A
 
 module _ {T A : Type 0} where
-  -- the empty text in a new block of `c` places, with the growth policy `g` and the allocator `a`
-  abbrev pub empty : (c : ℕ) → Growth → A → Buffer T A
-  empty c g a =
+  -- the empty text in a new block for `n` elements of `size` bytes, with the growth policy `g` and
+  -- the allocator `a`
+  abbrev pub empty : (size n : ℕ) → Growth → A → Buffer T A
+  empty size n g a =
       record {
         before = [];
         after = [];
-        capacity = c;
+        capacity = new_capacity size n;
         growth = g;
-        grown = 0;
+        grown = of_new size n;
         written = 0;
         runs = 0;
         alloc = a;
@@ -78,11 +80,10 @@ module _ {T A : Type 0} where
   -- amortized growth moved each element once
   abbrev pub with_room : (size : ℕ) → Buffer T A → (k : ℕ) → Buffer T A
   with_room size b k =
+      let c = amortized b.growth b.capacity (len b + k) (min_capacity size) in
       record b {
-        capacity = if nat_le k (gap b)
-            then b.capacity
-            else amortized b.growth b.capacity (len b + k) (min_capacity size);
-        grown = if nat_le k (gap b) then b.grown else b.grown + len b;
+        capacity = if nat_le k (gap b) then b.capacity else c;
+        grown = if nat_le k (gap b) then b.grown else with_growth b.grown (len b) b.capacity c;
       }
 
   -- `b` with `x` inserted before the cursor, in the first free place
@@ -94,14 +95,14 @@ module _ {T A : Type 0} where
   -- each of the `n`, or three
   abbrev pub GrowsWithin : Growth → Buffer T A → (n : ℕ) → Buffer T A → Type 0
   GrowsWithin Doubling old n new =
-      (new.grown + old.capacity ≤ old.grown + new.capacity)
-      × (new.grown + old.capacity ≤ old.grown + max old.capacity (2 * (len old + n)))
+      (new.grown.moved + old.capacity ≤ old.grown.moved + new.capacity)
+      × (new.grown.moved + old.capacity ≤ old.grown.moved + max old.capacity (2 * (len old + n)))
   GrowsWithin Sparing old n new =
-      (new.grown + 2 * old.capacity ≤ old.grown + 2 * new.capacity)
-      × (new.grown + 2 * old.capacity ≤ old.grown + max (2 * old.capacity) (3 * (len old + n)))
+      (new.grown.moved + 2 * old.capacity ≤ old.grown.moved + 2 * new.capacity)
+      × (new.grown.moved + 2 * old.capacity ≤ old.grown.moved + max (2 * old.capacity) (3 * (len old + n)))
   GrowsWithin InPlace old n new =
-      (new.grown + old.capacity ≤ old.grown + new.capacity)
-      × (new.grown + old.capacity ≤ old.grown + max old.capacity (2 * (len old + n)))
+      (new.grown.moved + old.capacity ≤ old.grown.moved + new.capacity)
+      × (new.grown.moved + old.capacity ≤ old.grown.moved + max old.capacity (2 * (len old + n)))
 
   -- `k` more elements of `size` bytes did not fit in `old`, and an amortized growth for them failed
   -- with `error`

@@ -1,6 +1,7 @@
 -- Gap buffers after edits.
-use Rattle.std.specs.Prelude.{◌≡◌, ℕ, ◌+◌, ◌-◌, ◌≤◌, min, List, [], ◌∷◌, ◌++◌, take, drop, fold, Option, None}
+use Rattle.std.specs.Prelude.{◌≡◌, ℕ, ◌+◌, ◌-◌, ◌≤◌, min, max, List, [], ◌∷◌, ◌++◌, take, drop, fold, Option, None}
 use Rattle.std.specs.Iterator.{Yields, YieldsThen}
+use Rattle.aa_raw.specs.Growths.{FewBlocks, most_held}
 use Rattle.aa_raw.specs.declared.collections.TryReserveError.{TryReserveError}
 use Rattle.aa_gap.specs.declared.gap_buffer.Edit.{Edit}
 use Rattle.aa_gap.specs.declared.gap_buffer.Edit.TheVariants.{Insert, DeleteBack, DeleteForward, MoveTo}
@@ -18,7 +19,8 @@ module _ {T A : Type 0} (size : ℕ) where
 
   -- `new` is `old` after these `edits`, one after another: exactly, with its capacity and its
   -- counters, and as a page. The length grew by at most one for each insert, and each edit wrote at
-  -- most what `written_by` says, in one run at most. Growth moved at most what `GrowsWithin` says
+  -- most what `written_by` says, in one run at most. Growth moved at most what `GrowsWithin` says,
+  -- allocated few blocks, and held no more places at once than `most_held` says, or than before
   pub record Edits (old : Buffer T A) (edits : List (Edit T)) (new : Buffer T A) : Type 0 where
     pub exact : new ≡ fold with_edit old edits
     pub leaves : page new ≡ fold edited (page old) edits
@@ -29,6 +31,10 @@ module _ {T A : Type 0} (size : ℕ) where
     pub writes : new.written ≤ old.written + total written_by edits (page old)
     pub runs : new.runs ≤ old.runs + total (λ e p. run_count (written_by e p)) edits (page old)
     pub grown : GrowsWithin old.growth old (inserts edits) new
+    pub blocks : FewBlocks old.growth (new.grown.blocks - old.grown.blocks)
+        (len old + inserts edits)
+    pub held : new.grown.held
+        ≤ max old.grown.held (most_held old.growth (len old + inserts edits))
 
 module _ {T A : Type 0} where
   module _ {I : Type 0} (steps : I → Option (Edit T) → I → Type 0) (from : I)

@@ -5,6 +5,7 @@ use Rattle.std.specs.Iterator.{Count, Drains, Yields}
 use Rattle.std.specs.Iterator.SizeHint.{IsWithinCount}
 use Rattle.std.specs.List.{AllZip}
 use Rattle.aa_raw.specs.Growth.{new_capacity}
+use Rattle.aa_raw.specs.Growths.{of_new}
 use Rattle.aa_raw.specs.declared.collections.TryReserveError.{TryReserveError}
 use Rattle.aa_gap.specs.Buffer.{Buffer, len, gap, moved_over, run_count, with_room, with_parts, LacksRoom}
 use Rattle.aa_gap.specs.Editing.{Edits}
@@ -28,7 +29,7 @@ module _ {T A : Type 0} where
     pub after : AllZip clones b.after copy.after
     pub capacity : copy.capacity ≡ new_capacity size (len b)
     pub growth : copy.growth ≡ b.growth
-    pub grown : copy.grown ≡ 0
+    pub grown : copy.grown ≡ of_new size (len b)
     pub written : copy.written ≡ len b + moved_over (gap copy) (length b.after)
     pub runs : copy.runs ≡ len b + run_count (moved_over (gap copy) (length b.after))
 

@@ -2,7 +2,7 @@
 ghost use Rattle.std.specs.Prelude.{◌≡◌, ◌+◌, ◌-◌, ◌*◌, ◌<◌, ◌≤◌, ◌∷◌, ◌++◌, [], length, take, drop, slice_get, option_copied, IfOk, IfErr, OnOk, OnErr, IsOk, IsTrue, false, MatchOption, ◌↔◌};
 ghost use Rattle.std.specs.Mem.{type_size};
 ghost use Rattle.std.specs.Iterator.{IsFinite};
-ghost use Rattle.aa_raw.specs.Growth.{new_capacity, usize_max};
+ghost use Rattle.aa_raw.specs.Growth.{usize_max};
 ghost use Rattle.aa_raw.specs.Places.{IsCapacity};
 ghost use Rattle.aa_raw.specs.Errors.{AllocationFails};
 ghost use Rattle.aa_gap.specs.Buffer.{Buffer, empty, text, cursor, len, gap, moved_over, with_parts, with_written, moved_to, with_room, put, HasRoom, LacksRoom};
@@ -61,7 +61,7 @@ impl<T, A: Allocator> GapBuffer<T, A> {
     ///
     /// Does not allocate.
     pub fn new_in(alloc: A) -> Self
-        ensures { result ≡ empty (new_capacity (type_size T.row) 0) Growth.Doubling alloc }
+        ensures { result ≡ empty (type_size T.row) 0 Growth.Doubling alloc }
     {
         GapBuffer::with_block(RawVec::new_in(alloc))
     }
@@ -70,7 +70,7 @@ impl<T, A: Allocator> GapBuffer<T, A> {
     ///
     /// Does not allocate.
     pub fn with_growth_in(growth: Growth, alloc: A) -> Self
-        ensures { result ≡ empty (new_capacity (type_size T.row) 0) growth alloc }
+        ensures { result ≡ empty (type_size T.row) 0 growth alloc }
     {
         GapBuffer::with_block(RawVec::with_growth_in(growth, alloc))
     }
@@ -84,7 +84,7 @@ impl<T, A: Allocator> GapBuffer<T, A> {
     /// `CapacityOverflow`; or `AllocError` with `capacity`.
     pub fn with_capacity_in(capacity: usize, alloc: A) -> Result<Self, TryReserveError>
         ensures made { IfOk result
-            (λ v. v ≡ empty (new_capacity (type_size T.row) capacity) Growth.Doubling alloc) }
+            (λ v. v ≡ empty (type_size T.row) capacity Growth.Doubling alloc) }
         ensures error { IfErr result (AllocationFails capacity (type_size T.row)) }
     {
         let block = RawVec::with_capacity_in(capacity, alloc)?;
@@ -506,7 +506,7 @@ impl<T, A: Allocator> GapBuffer<T, A> {
 impl<T, A: Allocator> MadeWith<A> for GapBuffer<T, A> {
     ghost use Rattle.aa_raw.specs.declared.raw_vec.Growth.TheVariants.{Doubling};
 
-    ghost is_made_with = { λ b. b ≡ empty (new_capacity (type_size T.row) 0) Doubling b.alloc };
+    ghost is_made_with = { λ b. b ≡ empty (type_size T.row) 0 Doubling b.alloc };
 
     /// Returns an empty text, as `new_in` does.
     fn made_with(alloc: A) -> Self {
@@ -517,14 +517,14 @@ impl<T, A: Allocator> MadeWith<A> for GapBuffer<T, A> {
 impl<T, A: Allocator + Clone> Emptied for GapBuffer<T, A> {
     ghost use Rattle.aa_raw.specs.declared.raw_vec.Growth.TheVariants.{Doubling};
 
-    ghost is_emptied = { λ b. b ≡ empty (new_capacity (type_size T.row) 0) Doubling b.alloc };
+    ghost is_emptied = { λ b. b ≡ empty (type_size T.row) 0 Doubling b.alloc };
 
     /// Returns an empty text over a clone of the allocator of `like`.
     ///
     /// Does not allocate.
     fn emptied(like: &Self) -> Result<Self, AllocError>
         ensures made { IfOk result
-            (λ b. b ≡ empty (new_capacity (type_size T.row) 0) Doubling b.alloc) }
+            (λ b. b ≡ empty (type_size T.row) 0 Doubling b.alloc) }
         ensures fits { A.is_infallible like.now.alloc → IsOk result }
     {
         Ok(GapBuffer::new_in(like.allocator().clone()?))

@@ -4,6 +4,7 @@ use Rattle.std.proofs.lemmas.Bool.Decides.{nat_tests}
 use Rattle.allocator_api2.proofs.Callers.{became}
 use Rattle.allocator_api2.specs.Vector as Vectors
 use Rattle.allocator_api2.specs.Vector.{Vector, len, GrowsTo, IsNew, SameBlock, Writes, Becomes}
+use Rattle.allocator_api2.specs.Growths.{Growths}
 use Rattle.aa_inline.specs.Inlined.{block_of, in_block, in_place}
 
 -- the inline items were moved into a new block with capacity for `needed`
@@ -13,7 +14,8 @@ unfolding in_block
 spilled size needed few a new roomy poured none made items block writes =
     let grows : GrowsTo size new needed new.items roomy = search became in let reserved : Writes new 0 0 roomy = search became in
     let room = grows.room in let long = ap length none.items in
-    let grown : roomy.grown ≡ new.grown = grind (arith, nat_tests, room, long) in
+    let grown : roomy.grown.moved ≡ new.grown.moved = grind (arith, nat_tests, room, long) in
     let capacity : roomy.capacity ≡ (in_block size needed (in_place few a)).block = grind (arith, nat_tests, room, long, none.growth, none.capacity) in
-    let moved : poured.grown + poured.written ≡ 0 + length few = omega (arith, block.grown, grown, reserved.written, writes.written, none.grown, none.written) in
+    let moved : poured.grown.moved + poured.written ≡ 0 + length few =
+    omega (arith, ap (λ (g : Growths). g.moved) block.grown, grown, reserved.written, writes.written, ap (λ (g : Growths). g.moved) none.grown, none.written) in
     λ i. record { items = (items ∙ ap (λ ys. ys ++ few) (grows.items ∙ none.items)) i; spilled = true; block = (block.capacity ∙ capacity) i; moved = moved i; alloc = (block.alloc ∙ room.alloc ∙ none.alloc) i }

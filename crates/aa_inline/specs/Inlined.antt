@@ -84,7 +84,7 @@ module _ {T A : Type 0} where
         items = v.items;
         spilled = true;
         block = v.capacity;
-        moved = v.grown + v.written;
+        moved = v.grown.moved + v.written;
         alloc = v.alloc;
       }
 

@@ -18,6 +18,7 @@ use Rattle.std.specs.declared.alloc.Allocator.{Ghosts}
 use Rattle.aa_raw.proofs.Access.{word}
 use Rattle.aa_raw.proofs.Entries.{Held, Room, Rows, Spot, entries_in, entries_out, kept, length-with_values, refilled, rows_had, rows_made}
 use Rattle.aa_raw.proofs.counter.Counter.TheLaws as counter_laws
+use Rattle.aa_raw.proofs.counter.GrowthCounters.TheLaws as growth_counters_laws
 use Rattle.aa_raw.proofs.raw_vec.RawVec.TheLaws as block_laws
 use Rattle.aa_raw.proofs.row.Claim.TheLaws as claim_laws
 use Rattle.aa_raw.proofs.row.Row.TheLaws as row_laws
@@ -25,6 +26,7 @@ use Rattle.aa_raw.specs.Block.{Block}
 use Rattle.aa_raw.specs.Entries.{Entry, Values, entries_owned, values_of, with_values}
 use Rattle.aa_raw.specs.EntriesLends.{with_values_of}
 use Rattle.aa_raw.specs.contracts.counter.Counter as counter
+use Rattle.aa_raw.specs.contracts.counter.GrowthCounters as growth_counters
 use Rattle.aa_raw.specs.contracts.raw_vec.RawVec as block
 use Rattle.aa_raw.specs.contracts.raw_vec.RawVec.TheInside as inside
 use Rattle.aa_raw.specs.contracts.row.Claim as claim
@@ -50,7 +52,7 @@ module _ (X Y Z : RattleType) (g : Ghosts Z.Denot) where
   of_row R = record { row = R; ty = lone R.mir }
 
   abbrev pub ms : List Member
-  ms = of_row (Rows K V) ∷ of_row usize ∷ of_row (claim.the_row (Entry K V) A g) ∷ of_row counter.the_row ∷ of_row counter.the_row ∷ of_row counter.the_row ∷ of_row A ∷ []
+  ms = of_row (Rows K V) ∷ of_row usize ∷ of_row (claim.the_row (Entry K V) A g) ∷ of_row growth_counters.the_row ∷ of_row counter.the_row ∷ of_row counter.the_row ∷ of_row A ∷ []
 
 module _ (X Y Z : RattleType) (LX : Laws X) (LY : Laws Y) (LZ : Laws Z) (g : Ghosts Z.Denot) {M : Type 1} {𝓤 : Ura M} (𝓛 : Logic 𝓤) (rb ro : ℕ) where
   abbrev pair_laws : Laws (Entry (K X Y Z g) (V X Y Z g))
@@ -67,7 +69,7 @@ module _ (X Y Z : RattleType) (LX : Laws X) (LY : Laws Y) (LZ : Laws Z) (g : Gho
       uint_Lawful 𝓛 w64,
       (
         (claim_laws.the_row_laws (Entry (K X Y Z g) (V X Y Z g)) (A X Y Z g) g pair_laws (param_laws 2 Z LZ)).lawful 𝓛,
-        (counter_laws.the_row_laws.lawful 𝓛, (counter_laws.the_row_laws.lawful 𝓛, (counter_laws.the_row_laws.lawful 𝓛, ((param_laws 2 Z LZ).lawful 𝓛, tt)))),
+        (growth_counters_laws.the_row_laws.lawful 𝓛, (counter_laws.the_row_laws.lawful 𝓛, (counter_laws.the_row_laws.lawful 𝓛, ((param_laws 2 Z LZ).lawful 𝓛, tt)))),
       ),
     ),
   )

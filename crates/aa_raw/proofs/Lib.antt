@@ -14,6 +14,7 @@ pub mod EntriesTaken
 mod Claims
 pub mod Errors
 pub mod Calls
+pub mod Costs
 pub mod Firsts
 pub mod Places
 pub mod Positions

@@ -1,6 +1,7 @@
 -- The model of a `RawVec`, as contracts see it.
 use Rattle.std.specs.Prelude.{◌≡◌, ℕ, ◌+◌, ◌-◌, ◌<◌, ◌≤◌, List, ◌++◌, length, take, replicate, Option, None, if◌then◌else◌, ◌==◌, nat_le, Result, IfErr, OnOk, IsOk}
 use Rattle.aa_raw.specs.Growth.{amortized, min_capacity, usize_max}
+pub use Rattle.aa_raw.specs.Growths.{Growths, of_new, with_growth, with_shrink}
 use Rattle.aa_raw.specs.Places.{empty_places, moved, with_run}
 use Rattle.aa_raw.specs.Room.{LacksRoom, run_count}
 use Rattle.aa_raw.specs.declared.collections.TryReserveError.{TryReserveError}
@@ -13,9 +14,9 @@ pub record Block (X A : Type 0) : Type 0 where
   -- each place is empty or filled, and their number is the capacity
   pub places : List (Option X)
   pub growth : Growth
-  -- the number of elements moved by growth, of elements written into places, and of calls that
-  -- wrote any
-  pub grown : ℕ
+  -- what its memory has cost, the number of elements written into places, and of calls that wrote
+  -- any
+  pub grown : Growths
   pub written : ℕ
   pub runs : ℕ
   pub alloc : A
@@ -28,7 +29,7 @@ module _ {X A : Type 0} where
       record {
         places = empty_places size n;
         growth = g;
-        grown = 0;
+        grown = of_new size n;
         written = 0;
         runs = 0;
         alloc = a;
@@ -73,7 +74,7 @@ module _ {X A : Type 0} where
       record {
         places = take len b.places ++ replicate (c - len) None;
         growth = b.growth;
-        grown = b.grown + len;
+        grown = with_growth b.grown len (length b.places) c;
         written = b.written;
         runs = b.runs;
         alloc = b.alloc;
@@ -81,7 +82,15 @@ module _ {X A : Type 0} where
 
   -- the block `b` after a shrink to `c` places, which keeps the first `len`
   abbrev pub shrunk_to : Block X A → ℕ → ℕ → Block X A
-  shrunk_to b len c = with_places b (take len b.places ++ replicate (c - len) None)
+  shrunk_to b len c =
+      record {
+        places = take len b.places ++ replicate (c - len) None;
+        growth = b.growth;
+        grown = with_shrink b.grown (length b.places) c;
+        written = b.written;
+        runs = b.runs;
+        alloc = b.alloc;
+      }
 
   -- the block `b` after `shrink_to_fit` to `c` places of `size` bytes. Zero-sized elements keep all
   -- their places
@@ -113,7 +122,8 @@ module _ {X A : Type 0} where
     pub kept : take n new.places ≡ take n old.places
     pub growth : new.growth ≡ old.growth
     pub grown : new.grown
-        ≡ (if nat_le (n + k) (length old.places) then old.grown else old.grown + n)
+        ≡ (if nat_le (n + k) (length old.places) then old.grown
+        else with_growth old.grown n (length old.places) requested)
     pub written : new.written ≡ old.written
     pub runs : new.runs ≡ old.runs
     pub alloc : new.alloc ≡ old.alloc

@@ -1,15 +1,15 @@
 -- The model of an `IntoIter`: its remaining items, and the block that holds them.
 use Rattle.std.specs.Prelude.{◌≡◌, ℕ, List, [], ◌∷◌, ◌++◌, length, Option, MatchOption}
-use Rattle.aa_raw.specs.Block.{Block}
+use Rattle.aa_raw.specs.Block.{Block, Growths}
 
 -- the model of an iterator over a block: its remaining items, and the capacity, the counters and
 -- the allocator of the block
 pub record Remaining (X A : Type 0) : Type 0 where
   pub items : List X
   pub capacity : ℕ
-  -- the number of elements moved by growth, of elements written into places, and of calls that
-  -- wrote any
-  pub grown : ℕ
+  -- what the block's memory has cost, the number of elements written into places, and of calls
+  -- that wrote any
+  pub grown : Growths
   pub written : ℕ
   pub runs : ℕ
   pub alloc : A

@@ -1,6 +1,6 @@
 -- Growth that keeps two runs of a block. A run is a pair of its first place and its length.
 use Rattle.std.specs.Prelude.{◌≡◌, ℕ, ◌+◌, ◌<◌, ◌≤◌, ◌-◌, ◌⊎◌, ◌++◌, take, drop, replicate, None, length, if◌then◌else◌, nat_le, Result, IfErr, OnOk, IsOk}
-use Rattle.aa_raw.specs.Block.{Block, growth_capacity}
+use Rattle.aa_raw.specs.Block.{Block, growth_capacity, with_growth}
 use Rattle.aa_raw.specs.Growth.{usize_max}
 use Rattle.aa_raw.specs.Places.{IsRun, run, with_run}
 use Rattle.aa_raw.specs.Room.{LacksRoom}
@@ -24,7 +24,7 @@ module _ {X A : Type 0} where
             (with_run (replicate c None) 0 first.1 (take first.1 (drop first.0 b.places)))
             to second.1 (take second.1 (drop second.0 b.places));
         growth = b.growth;
-        grown = b.grown + both first second;
+        grown = with_growth b.grown (both first second) (length b.places) c;
         written = b.written;
         runs = b.runs;
         alloc = b.alloc;
@@ -46,7 +46,7 @@ module _ {X A : Type 0} where
     pub growth : new.growth ≡ old.growth
     pub grown : new.grown
         ≡ (if nat_le (both first second + k) (length old.places) then old.grown
-        else old.grown + both first second)
+        else with_growth old.grown (both first second) (length old.places) requested)
     pub written : new.written ≡ old.written
     pub runs : new.runs ≡ old.runs
     pub alloc : new.alloc ≡ old.alloc

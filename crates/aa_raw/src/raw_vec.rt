@@ -7,7 +7,7 @@ ghost use Rattle.std.specs.Mem.{type_size};
 ghost use Rattle.std.specs.Borrow.{sem};
 ghost use Rattle.std.specs.Fn.{CalledAtPairMut};
 ghost use Rattle.aa_raw.specs.Places.{IsCapacity, IsFilled, IsRun, moved, with_run};
-ghost use Rattle.aa_raw.specs.Block.{fresh, with_places, without, with_moved, with_written, grown_to, shrunk_to, cut_to, growth_capacity, reserve_capacity, Reserves, ReserveResult};
+ghost use Rattle.aa_raw.specs.Block.{fresh, with_places, without, with_moved, with_written, grown_to, shrunk_to, cut_to, growth_capacity, of_new, reserve_capacity, with_shrink, Reserves, ReserveResult};
 ghost use Rattle.aa_raw.specs.Closures.{CallableAtPairMut, CalledAtPlaces};
 ghost use Rattle.aa_raw.specs.Growth.{amortized, min_capacity, usize_max};
 ghost use Rattle.aa_raw.specs.Errors.{error_for, AllocationFails, IsErrorFor};
@@ -15,7 +15,7 @@ ghost use Rattle.aa_raw.specs.Packed.{CanPack, capacity_in};
 ghost use Rattle.aa_raw.specs.Room.{LacksRoom, NeedsNewBlock};
 
 use crate::collections::{TryReserveError, TryReserveErrorKind};
-use crate::counter::Counter;
+use crate::counter::{Counter, GrowthCounters};
 use crate::row::{Claim, Row, allocate, dangling, deallocate, forget_row};
 use crate::size::{fits_in_block, is_zst, min_non_zero_capacity};
 use std::alloc::{AllocError, Allocator, Global};
@@ -80,7 +80,7 @@ pub struct RawVec<T, A: Allocator = Global> {
     pub(crate) row: Row<T>,
     word: usize,
     claim: Claim<T, A>,
-    grown: Counter,
+    grown: GrowthCounters,
     written: Counter,
     runs: Counter,
     alloc: A,
@@ -616,8 +616,8 @@ impl<T, A: Allocator> RawVec<T, A> {
     // places after the values, and these are unchanged if a growth fails; so a block that is not
     // full moves.
     fn grow_to(&mut self, len: usize, capacity: usize) -> bool
-        requires { IsRun self.old.places 0 len × (len ≤ capacity) × (0 < type_size T.row)
-            × IsCapacity T.row capacity }
+        requires { IsRun self.old.places 0 len × (len ≤ capacity) × (0 < capacity)
+            × (0 < type_size T.row) × IsCapacity T.row capacity }
         ensures grown { IsTrue result → self.new ≡ grown_to self.old len capacity }
         ensures unchanged { result ≡ false → self.new ≡ self.old }
     {
@@ -627,7 +627,7 @@ impl<T, A: Allocator> RawVec<T, A> {
             self.move_to(len, capacity)
         };
         if grown {
-            self.grown.add(len);
+            self.grown.add_moved(len);
         }
         grown
     }
@@ -635,7 +635,8 @@ impl<T, A: Allocator> RawVec<T, A> {
     // Moves the first `len` values to a new block of `capacity` places and deallocates the old one.
     // Returns `false` if the allocation fails.
     fn move_to(&mut self, len: usize, capacity: usize) -> bool
-        requires { IsRun self.old.places 0 len × (len ≤ capacity) × IsCapacity T.row capacity }
+        requires { IsRun self.old.places 0 len × (len ≤ capacity) × (0 < type_size T.row)
+            × IsCapacity T.row capacity }
         ensures moved { IsTrue result → self.new ≡ shrunk_to self.old len capacity }
         ensures unchanged { result ≡ false → (self.new ≡ self.old) × (0 < capacity) }
     {
@@ -649,15 +650,24 @@ impl<T, A: Allocator> RawVec<T, A> {
         }
     }
 
-    // Makes the `capacity` places of `row` those of the block, and deallocates the memory of the
-    // old places. The values in them are forgotten.
+    // Makes the `capacity` places of `row` those of the block, counts their allocation, and
+    // deallocates the memory of the old places. The values in them are forgotten.
     fn replace_row(&mut self, capacity: usize, row: Row<T>, claim: Claim<T, A>)
         requires row { (claim.ptr ≡ row.ptr) × (claim.len ≡ capacity)
             × (claim.alloc ≡ self.old.alloc) × (length row.places ≡ capacity) }
-        requires possible { CanPack capacity }
-        ensures { self.new ≡ with_places self.old row.places }
+        requires possible { CanPack capacity × (0 < type_size T.row) × IsCapacity T.row capacity }
+        ensures { self.new ≡ record {
+          places = row.places;
+          growth = self.old.growth;
+          grown = with_shrink self.old.grown (length self.old.places) capacity;
+          written = self.old.written;
+          runs = self.old.runs;
+          alloc = self.old.alloc;
+        } }
     {
+        self.prove_capacity_bounds();
         let old_capacity = self.capacity();
+        self.grown.add_block(old_capacity, capacity);
         self.word = packed(capacity, self.growth());
         let old_row = replace(&mut self.row, row);
         let old_claim = replace(&mut self.claim, claim);
@@ -678,7 +688,7 @@ pub(crate) fn from_row<T, A: Allocator>(
     ensures { result ≡ record {
       places = row.0.places;
       growth = growth;
-      grown = 0;
+      grown = of_new (type_size T.row) capacity;
       written = 0;
       runs = 0;
       alloc = alloc;
@@ -689,7 +699,7 @@ pub(crate) fn from_row<T, A: Allocator>(
         row,
         word: packed(capacity, growth),
         claim,
-        grown: Counter::zero(),
+        grown: GrowthCounters::of_new::<T>(capacity),
         written: Counter::zero(),
         runs: Counter::zero(),
         alloc,

@@ -4,14 +4,14 @@ use Rattle.std.proofs.lemmas.Bool.Decides.{nat_tests}
 use Rattle.allocator_api2.specs.declared.raw_vec.Growth.{Growth}
 use Rattle.allocator_api2.specs.declared.raw_vec.Growth.TheVariants.{Doubling, InPlace, Sparing}
 use Rattle.aa_ring.specs.Paid.{IsPaid}
-use Rattle.aa_ring.specs.Ringed.{Ringed, empty, with_room, with_written}
+use Rattle.aa_ring.specs.Ringed.{Growths, Ringed, empty, with_room, with_written}
 
 module _ {T A : Type 0} where
-  pub IsPaid-empty : (c : ℕ) (a : A) → IsPaid {T = T} 0 (empty c Doubling a)
-  IsPaid-empty c a = record { doubles = refl; items = omega arith; fits = omega arith; moves = omega arith; within = omega arith }
+  pub IsPaid-empty : (size c : ℕ) (a : A) → IsPaid {T = T} 0 (empty size c Doubling a)
+  IsPaid-empty size c a = record { doubles = refl; items = omega arith; fits = omega arith; moves = omega arith; within = omega arith }
 
   -- one more, at either end
-  doubled : (size n : ℕ) (xs : List T) (items : List T) (c : ℕ) (g : Growth) (grown written : ℕ) (a : A) → g ≡ Doubling
+  doubled : (size n : ℕ) (xs : List T) (items : List T) (c : ℕ) (g : Growth) (grown : Growths) (written : ℕ) (a : A) → g ≡ Doubling
       → let r : Ringed T A = record { items = items; capacity = c; growth = g; grown = grown; written = written; alloc = a } in IsPaid n r → length xs ≡ length items + 1 → IsPaid (n + 1) (with_written (with_room size r 1) xs 1)
   doubled size n xs items c Sparing grown written a e p more = cc
   doubled size n xs items c InPlace grown written a e p more = cc

@@ -5,7 +5,7 @@ use Rattle.std.specs.List.{AllZip, FoldsTo}
 use Rattle.allocator_api2.specs.Growth.{new_capacity}
 use Rattle.allocator_api2.specs.declared.collections.TryReserveError.{TryReserveError}
 use Rattle.allocator_api2.specs.declared.collections.TryReserveErrorKind.TheVariants.{AllocError}
-use Rattle.aa_ring.specs.Ringed.{Ringed, with_written, with_room, LacksRoom}
+use Rattle.aa_ring.specs.Ringed.{Ringed, of_new, with_written, with_room, LacksRoom}
 
 module _ {T A : Type 0} where
   -- the ring `r` after the item `x` of `size` bytes was pushed at the back
@@ -30,7 +30,7 @@ module _ {T A : Type 0} where
     pub each : AllZip clones r.items copy.items
     pub capacity : copy.capacity ≡ new_capacity size (length r.items)
     pub growth : copy.growth ≡ r.growth
-    pub grown : copy.grown ≡ 0
+    pub grown : copy.grown ≡ of_new size (length r.items)
     pub written : copy.written ≡ length r.items
 
   -- `new` is `old` with a clone of each of `xs` appended

@@ -8,5 +8,5 @@ pub record IsPaid {T A : Type 0} (n : ℕ) (r : Ringed T A) : Type 0 where
   pub doubles : r.growth ≡ Doubling
   pub items : length r.items ≤ n
   pub fits : length r.items ≤ r.capacity
-  pub moves : r.grown ≤ 2 * n
-  pub within : r.grown ≤ r.capacity
+  pub moves : r.grown.moved ≤ 2 * n
+  pub within : r.grown.moved ≤ r.capacity

@@ -1,6 +1,7 @@
 -- The model of a ring: what contracts see.
 use Rattle.std.specs.Prelude.{ℕ, ◌+◌, ◌-◌, ◌≤◌, List, [], drop, length, min, slice_index_or, slice_set, nat_le, if◌then◌else◌}
 use Rattle.allocator_api2.specs.Growth.{amortized, min_capacity, new_capacity}
+pub use Rattle.allocator_api2.specs.Growths.{Growths, of_new, with_growth, with_shrink}
 use Rattle.allocator_api2.specs.Room as Room
 use Rattle.allocator_api2.specs.declared.collections.TryReserveError.{TryReserveError}
 use Rattle.allocator_api2.specs.declared.raw_vec.Growth.{Growth}
@@ -15,14 +16,22 @@ pub record Ringed (T A : Type 0) : Type 0 where
   pub items : List T
   pub capacity : ℕ  -- how many items fit before the ring allocates
   pub growth : Growth
-  pub grown : ℕ  -- items moved by growth so far
+  pub grown : Growths  -- what its memory has cost so far
   pub written : ℕ  -- items written into places so far; `make_contiguous` counts each item once
   pub alloc : A
 
 module _ {T A : Type 0} where
-  -- an empty ring over `a`, in a new block of `c` places that grows by `g`
-  abbrev pub empty : (c : ℕ) → Growth → A → Ringed T A
-  empty c g a = record { items = []; capacity = c; growth = g; grown = 0; written = 0; alloc = a }
+  -- an empty ring over `a`, in a new block for `n` items of `size` bytes that grows by `g`
+  abbrev pub empty : (size n : ℕ) → Growth → A → Ringed T A
+  empty size n g a =
+      record {
+        items = [];
+        capacity = new_capacity size n;
+        growth = g;
+        grown = of_new size n;
+        written = 0;
+        alloc = a;
+      }
 
   -- `k` more items fit in `r`
   abbrev pub HasRoom : Ringed T A → ℕ → Type 0
@@ -41,9 +50,15 @@ module _ {T A : Type 0} where
   abbrev pub contiguous : Ringed T A → (xs : List T) → Ringed T A
   contiguous r xs = with_written r xs (length r.items)
 
-  -- `r` with capacity for `n` items of `size` bytes, or with its own if that is less
+  -- `r` with capacity for `n` items of `size` bytes, in a new block; or with its own if that is no
+  -- more
   abbrev pub with_less : (size : ℕ) → Ringed T A → (n : ℕ) → Ringed T A
-  with_less size r n = record r { capacity = min r.capacity (new_capacity size n) }
+  with_less size r n =
+      let c = new_capacity size n in
+      record r {
+        capacity = min r.capacity c;
+        grown = if nat_le r.capacity c then r.grown else with_shrink r.grown r.capacity c;
+      }
 
   -- `r` after a shrink to `n` items of `size` bytes: if it had more capacity, its items were moved
   -- into one slice
@@ -63,7 +78,7 @@ module _ {T A : Type 0} where
             (r.capacity - length r.items) then r.capacity else growth_capacity size r k;
         grown =
             if nat_le k (r.capacity - length r.items) then r.grown
-            else r.grown + length r.items;
+            else with_growth r.grown (length r.items) r.capacity (growth_capacity size r k);
       }
 
   -- `k` more items did not fit in `r`, and growing failed with `error`

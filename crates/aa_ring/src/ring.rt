@@ -1,7 +1,6 @@
 //! `Ring`: a double-ended queue.
 ghost use Rattle.std.specs.Prelude.{◌≡◌, ◌<◌, ◌≤◌, [], ◌∷◌, ◌++◌, length, take, slice_get, option_copied, IfErr, IfOk, OnErr, OnOk, IsOk, IsTrue, MatchOption, ◌↔◌};
 ghost use Rattle.std.specs.Mem.{type_size};
-ghost use Rattle.allocator_api2.specs.Growth.{new_capacity};
 ghost use Rattle.allocator_api2.specs.Errors.{AllocationFails};
 ghost use Rattle.aa_ring.specs.Ringed.{empty, with_written, with_room, HasRoom, LacksRoom};
 
@@ -62,7 +61,7 @@ impl<T, A: Allocator> Ring<T, A> {
     /// Does not allocate.
     #[tactic(auto, using(allocator_api2::proofs::Blocks::with_room))]
     pub fn new_in(alloc: A) -> Self
-        ensures { result ≡ empty (new_capacity (type_size T.row) 0) Doubling alloc }
+        ensures { result ≡ empty (type_size T.row) 0 Doubling alloc }
     {
         Ring::from_block(RawVec::new_in(alloc))
     }
@@ -75,8 +74,7 @@ impl<T, A: Allocator> Ring<T, A> {
     /// `CapacityOverflow`, or `AllocError` with `capacity`, if the allocation fails.
     #[tactic(auto, using(allocator_api2::proofs::Blocks::with_room))]
     pub fn with_capacity_in(capacity: usize, alloc: A) -> Result<Self, TryReserveError>
-        ensures made { IfOk result
-            (λ r. r ≡ empty (new_capacity (type_size T.row) capacity) Doubling alloc) }
+        ensures made { IfOk result (λ r. r ≡ empty (type_size T.row) capacity Doubling alloc) }
         ensures error { IfErr result (AllocationFails capacity (type_size T.row)) }
     {
         Ok(Ring::from_block(RawVec::with_capacity_in(capacity, alloc)?))

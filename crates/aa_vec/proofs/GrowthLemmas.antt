@@ -1,4 +1,5 @@
 -- Lemmas on a vector that grew while it was full.
+use Rattle.aa_raw.specs.Growths.{with_growth}
 use Rattle.aa_vec.proofs.Common.{◌≡◌, ℕ, ◌+◌, ◌-◌, ◌<◌, ◌≤◌, List, ◌++◌, length, append_assoc, append-nil, sym, Ok, Extends, refl, ap, ◌∙◌, subst, arith, min, usize_max, Growth, Doubling, InPlace, Sparing, amortized, min_capacity, Vector, SameBlock, Holds, with_room, GrowsInSteps, unchanged, grows, nat_tests, requested_with}
 
 -- a growth requests no less than what is needed
@@ -24,7 +25,7 @@ module _ {T A : Type 0} where
 
   -- capacity is reserved alike in one block
   pub MakesRoom-same : (size n k : ℕ) {u v w : Vector T A} → SameBlock u v → MakesRoom size v n k w → MakesRoom size u n k w
-  MakesRoom-same size n k b m = record { capacity = rw (← b.capacity, ← b.growth) m.capacity; growth = m.growth ∙ b.growth; grown = rw (← b.capacity, ← b.grown) m.grown; alloc = m.alloc ∙ b.alloc }
+  MakesRoom-same size n k b m = record { capacity = rw (← b.capacity, ← b.growth) m.capacity; growth = m.growth ∙ b.growth; grown = rw (← b.capacity, ← b.growth, ← b.grown) m.grown; alloc = m.alloc ∙ b.alloc }
 
   pub MakesRoomTwice-same : (size n h r : ℕ) {u v w : Vector T A} → SameBlock u v → MakesRoomTwice size v n h r w → MakesRoomTwice size u n h r w
   MakesRoomTwice-same size n h r {u} {v} b m = MakesRoom-same size (n + h) r (MakesRoom-same size n h b (SameBlock-refl (with_room size v n h))) m
@@ -50,7 +51,7 @@ module _ {T A : Type 0} where
   MakesRoom-unchanged size n k v w m h = record { capacity = grind (arith, nat_tests); growth = m.growth; grown = grind (arith, nat_tests); alloc = m.alloc }
 
   -- else there was a growth
-  pub MakesRoom-grows : (size n k : ℕ) (v w : Vector T A) → MakesRoom size v n k w → v.capacity - n < k → (w.capacity ≡ amortized v.growth v.capacity (n + k) (min_capacity size)) × (w.grown ≡ v.grown + n)
+  pub MakesRoom-grows : (size n k : ℕ) (v w : Vector T A) → MakesRoom size v n k w → v.capacity - n < k → let c = amortized v.growth v.capacity (n + k) (min_capacity size) in (w.capacity ≡ c) × (w.grown ≡ with_growth v.grown n v.capacity c)
   MakesRoom-grows size n k v w m h = (grind (arith, nat_tests), grind (arith, nat_tests))
 
   -- items appended to others, and then more
@@ -71,16 +72,13 @@ module _ {T A : Type 0} where
     asks = requested_with (lower (needed - v.capacity - 1))
 
     abbrev pub grown_by : Vector T A
-    grown_by = record v { capacity = amortized v.growth v.capacity (v.capacity + asks) (min_capacity size); grown = v.grown + v.capacity }
-
-    pub grown_from : (w : Vector T A) → MakesRoom size v v.capacity asks w → SameBlock grown_by w
-    grown_from w m = let b = MakesRoom-grows size v.capacity asks v w m (omega arith) in record { capacity = b.0; growth = m.growth; grown = b.1; alloc = m.alloc }
+    grown_by = with_room size v v.capacity asks
 
     pub grown_room : MakesRoom size v v.capacity asks grown_by
-    grown_room = grind (arith, nat_tests, MakesRoom-grows, SameBlock-refl)
+    grown_room = SameBlock-refl grown_by
 
     pub grown_rises : v.capacity ≤ grown_by.capacity
-    grown_rises = omega (arith, amortized-enough v.growth v.capacity (v.capacity + asks) (min_capacity size))
+    grown_rises = MakesRoom-rises size v.capacity asks v grown_by grown_room
 
 -- the same grow from another vector in the same block, where r more items remain after those that were counted, and the bounds agree
 -- from the capacity on
@@ -90,7 +88,8 @@ GrowsInSteps-counted size lower by needed r all {v = v} {w = w} b e same (unchan
 GrowsInSteps-counted size lower by needed r all {u} {v} {w} b e same (grows h rest) =
     let a : asks size lower needed v ≡ asks size by all u = ap (λ n. min (n + 1) usize_max) (same (needed - v.capacity - 1) (omega (arith, h, b.capacity)) ∙ ap by (omega (arith, h, b.capacity, e))) in
     let mid : SameBlock (grown_by size by all u) (grown_by size lower needed v) =
-    record { capacity = λ i. amortized (b.growth i) (b.capacity i) (b.capacity i + a i) (min_capacity size); growth = b.growth; grown = omega (arith, b.grown, b.capacity); alloc = b.alloc } in
+    subst (λ k. MakesRoom size u u.capacity k (grown_by size lower needed v)) a (subst (λ c. MakesRoom size u c (asks size lower needed v) (grown_by size lower needed v)) b.capacity
+    (MakesRoom-same size v.capacity (asks size lower needed v) b (grown_room size lower needed v))) in
     grows (omega (arith, h, b.capacity, e)) (GrowsInSteps-counted size lower by needed r all {u = grown_by size by all u} {v = grown_by size lower needed v} {w = w} mid e (λ k l. same k (omega (arith, l, grown_rises size by all u))) rest)
 
 module _ {T A : Type 0} (size : ℕ) (lower : ℕ → ℕ) (needed : ℕ) where
@@ -101,7 +100,7 @@ module _ {T A : Type 0} (size : ℕ) (lower : ℕ → ℕ) (needed : ℕ) where
 
   -- one growth comes before
   pub GrowsInSteps-first : {u v w : Vector T A} → u.capacity < needed → MakesRoom size u u.capacity (asks size lower needed u) v → GrowsInSteps size lower needed v w → GrowsInSteps size lower needed u w
-  GrowsInSteps-first {u} {v} h m r = grows h (GrowsInSteps-counted size lower lower needed 0 needed (grown_from size lower needed u v m) (omega arith) (λ k _. ap lower (omega arith)) r)
+  GrowsInSteps-first {u} {v} h m r = grows h (GrowsInSteps-counted size lower lower needed 0 needed m (omega arith) (λ k _. ap lower (omega arith)) r)
 
   -- and one follows
   pub GrowsInSteps-more : {u v w : Vector T A} → GrowsInSteps size lower needed u v → v.capacity < needed → MakesRoom size v v.capacity (asks size lower needed v) w → GrowsInSteps size lower needed u w

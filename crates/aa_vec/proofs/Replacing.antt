@@ -93,8 +93,16 @@ module _ {S T A : Type 0} (steps : S → Option T → S → Type 0) (LowerIs : S
         new_items : new.items ≡ head ++ ((came ++ others) ++ tail)
         new_items = ap (λ u. u.items) r.becomes ∙ put_between head came tail others z.items n z_items tail_count
 
+        all_room : MakesRoom size (with_room size old (len old) bound) (len old + bound) (length (came ++ others) - bound) new
+        all_room =
+            let roomy : Vector T A = with_room size old (len old) bound in
+            let count : len z ≡ len old + bound = omega (arith, z_len, bound_came) in
+            let more : length others ≡ length (came ++ others) - bound = omega (arith, length-append came others, bound_came) in
+            subst (λ n. MakesRoom size roomy n (length (came ++ others) - bound) new) count
+            (subst (λ k. MakesRoom size roomy (len z) k new) more (MakesRoom-same size (len z) (length others) z_room (SameBlock-becomes _ _ _ _ _ r.becomes)))
+
         all_put : PutsAll steps size s old bound n new after
-        all_put = grind (arith, nat_tests, z_len, bound_came, length-append, Yields-join, new_items, MakesRoom-same, z_room, SameBlock-becomes, z_written, moved_none)
+        all_put = grind (arith, nat_tests, z_len, bound_came, length-append, Yields-join, new_items, all_room, z_written, moved_none)
 
         rest_within : (len old ≤ len new) × PutsWithin old (len old) n new
         rest_within = grind (arith, nat_tests, new_items, length-append, z_len, head_count, tail_count, z_written, z_becomes, moved_most, moved_none, one_run)

@@ -6,7 +6,7 @@ use Rattle.aa_raw.specs.declared.collections.TryReserveError.{TryReserveError}
 use Rattle.aa_raw.specs.declared.collections.TryReserveErrorKind.TheVariants.{AllocError}
 use Rattle.aa_raw.specs.declared.raw_vec.Growth.{Growth}
 use Rattle.aa_raw.specs.declared.raw_vec.Growth.TheVariants.{Doubling}
-use Rattle.aa_vec.specs.Vector.{Vector, len, new_capacity, Becomes, LacksRoom, with_items, with_room}
+use Rattle.aa_vec.specs.Vector.{Vector, len, new_capacity, of_new, Becomes, LacksRoom, with_items, with_room}
 
 -- the closure `f` can be called `k` times, each time in the state that the call before left
 abbrev pub MayCallTimes : {F T : Type 0} → (F → Type 0) → (F → T → F → Type 0) → (k : ℕ) → F
@@ -23,7 +23,7 @@ module _ {T A : Type 0} where
     pub items : v.items ≡ xs
     pub capacity : v.capacity ≡ new_capacity size n
     pub grows : v.growth ≡ growth
-    pub grown : v.grown ≡ 0
+    pub grown : v.grown ≡ of_new size n
     pub written : v.written ≡ length xs
     pub runs : v.runs ≡ k
 

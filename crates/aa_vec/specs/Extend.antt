@@ -9,7 +9,7 @@ use Rattle.aa_raw.specs.Room.{LacksRoom}
 use Rattle.aa_raw.specs.declared.collections.TryReserveError.{TryReserveError}
 pub use Rattle.aa_boxed.specs.Hints.{LowerAtMost, requested_with, EndsAt, YieldsWithLower, Takes}
 use Rattle.aa_raw.specs.declared.raw_vec.Growth.TheVariants.{Doubling}
-use Rattle.aa_vec.specs.Vector.{Vector, IsNew}
+use Rattle.aa_vec.specs.Vector.{Vector, IsNew, with_room}
 
 -- what an `Items` holds: the remaining items, in order, and the hint that it returns of their
 -- number
@@ -44,13 +44,7 @@ module _ {T A : Type 0} where
         → GrowsInSteps size lower needed old new
     grows : {old new : Vector T A} → old.capacity < needed
         → GrowsInSteps size lower needed
-        (record old {
-          capacity = amortized old.growth old.capacity
-              (old.capacity + requested_with (lower (needed - old.capacity - 1)))
-              (min_capacity size);
-          grown = old.grown + old.capacity;
-        })
-        new
+        (with_room size old old.capacity (requested_with (lower (needed - old.capacity - 1)))) new
         → GrowsInSteps size lower needed old new
 
   -- `new` has `xs` and after it `front`, a beginning of `added`, in the block of `old` or the first

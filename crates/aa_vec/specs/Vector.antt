@@ -4,6 +4,7 @@ use Rattle.aa_raw.specs.declared.raw_vec.Growth.{Growth}
 use Rattle.aa_raw.specs.declared.raw_vec.Growth.TheVariants.{Doubling}
 use Rattle.aa_raw.specs.declared.collections.TryReserveError.{TryReserveError}
 pub use Rattle.aa_raw.specs.Growth.{new_capacity}
+pub use Rattle.aa_raw.specs.Growths.{Growths, of_new, with_growth, with_shrink}
 use Rattle.aa_raw.specs.Growth.{amortized, min_capacity}
 pub use Rattle.aa_raw.specs.Room.{moved_over, run_count}
 use Rattle.aa_raw.specs.Room as Room
@@ -13,7 +14,7 @@ pub record Vector (T A : Type 0) : Type 0 where
   pub items : List T
   pub capacity : ℕ  -- the number of items without growing, `usize::MAX` for zero-sized elements
   pub growth : Growth
-  pub grown : ℕ  -- elements moved by growth so far
+  pub grown : Growths  -- what its memory has cost so far
   pub written : ℕ  -- elements written into places so far
   pub runs : ℕ  -- calls of the block that wrote any so far
   pub alloc : A
@@ -33,11 +34,12 @@ module _ {T A : Type 0} where
   -- block grew by its policy and the `n` elements were moved
   abbrev pub with_room : (size : ℕ) → Vector T A → (n k : ℕ) → Vector T A
   with_room size v n k =
+      let c = amortized v.growth v.capacity (n + k) (min_capacity size) in
       record v {
-        capacity = if nat_le k (v.capacity - n)
-            then v.capacity
-            else amortized v.growth v.capacity (n + k) (min_capacity size);
-        grown = if nat_le k (v.capacity - n) then v.grown else v.grown + n;
+        capacity = if nat_le k (v.capacity - n) then v.capacity else c;
+        grown = if nat_le k (v.capacity - n)
+            then v.grown
+            else with_growth v.grown n v.capacity c;
       }
 
   -- `v` with capacity for `k` more than `n` elements: if they did not fit, the block grew to
@@ -46,12 +48,20 @@ module _ {T A : Type 0} where
   with_exact_room v n k =
       record v {
         capacity = if nat_le k (v.capacity - n) then v.capacity else n + k;
-        grown = if nat_le k (v.capacity - n) then v.grown else v.grown + n;
+        grown = if nat_le k (v.capacity - n)
+            then v.grown
+            else with_growth v.grown n v.capacity (n + k);
       }
 
-  -- `v` with capacity for `n` elements of `size` bytes, or with its own if that is less
+  -- `v` with capacity for `n` elements of `size` bytes, in a new block; or with its own if that is
+  -- no more
   abbrev pub with_less : (size : ℕ) → Vector T A → (n : ℕ) → Vector T A
-  with_less size v n = record v { capacity = min v.capacity (new_capacity size n) }
+  with_less size v n =
+      let c = new_capacity size n in
+      record v {
+        capacity = min v.capacity c;
+        grown = if nat_le v.capacity c then v.grown else with_shrink v.grown v.capacity c;
+      }
 
   -- `old` has no spare capacity for `k` more elements, and growing by its policy failed with this
   -- `error`
@@ -73,7 +83,7 @@ module _ {T A : Type 0} where
     pub items : v.items ≡ []
     pub capacity : v.capacity ≡ new_capacity size n
     pub growth : v.growth ≡ Doubling
-    pub grown : v.grown ≡ 0
+    pub grown : v.grown ≡ of_new size n
     pub written : v.written ≡ 0
     pub runs : v.runs ≡ 0
     pub alloc : v.alloc ≡ a

@@ -1,5 +1,8 @@
 -- What a list of commands added, where each adds at most one element.
 use Rattle.allocator_api2.proofs.Common.{◌≡◌, ℕ, ◌+◌, ◌*◌, ◌≤◌, List, [], ◌∷◌, length, map, sum_by, sym, ap, subst, arith, AllByRecursion, sum_by-cons, Growth, Vector, Command, Push, Within, Insert, Append, Extend, Reply, Done, State, Calls, Turn, AddsOrRemoves, added, added_by, moves_each, RunsWithin, length-map}
+use Rattle.std.specs.Prelude.{◌-◌}
+use Rattle.aa_raw.specs.Growths.{FewBlocks}
+use Rattle.aa_raw.proofs.Costs.{FewBlocks-more}
 use Rattle.allocator_api2.specs.Run.{AddsOneAtMost}
 
 pub moves_each-le : (G : Growth) (grown paid n k : ℕ) → n ≤ k → grown ≤ paid + moves_each G * n → grown ≤ paid + moves_each G * k
@@ -35,11 +38,20 @@ module _ {T A K S : Type 0} where
   -- so from an empty vector growth moved at most twice as many elements as there were commands, or three times as many if sparing
   pub grown-le : {size : ℕ} {calls : Calls T A K S} {old new : State T A K S} {commands : List (Command T A)} {replies : List (Reply T)}
       → RunsWithin size calls old commands replies new → old.main.items ≡ [] → AllByRecursion AddsOneAtMost commands
-      → new.main.grown ≤ old.main.grown + moves_each old.main.growth * length commands
+      → new.main.grown.moved ≤ old.main.grown.moved + moves_each old.main.growth * length commands
   grown-le {old = old} {new} {commands} r empty a =
       let few = added-le r.run.turns (subst (AllByRecursion AddsOneAtMost) (sym r.run.commands_are) a) in
       let count = simp length-map at (ap length r.run.commands_are) in
-      moves_each-le old.main.growth new.main.grown old.main.grown (sum_by added r.run.turns) (length commands) (omega (arith, few, count)) (r.growth empty (all_add_or_remove commands a))
+      moves_each-le old.main.growth new.main.grown.moved old.main.grown.moved (sum_by added r.run.turns) (length commands) (omega (arith, few, count)) (r.growth empty (all_add_or_remove commands a))
+
+  -- and it allocated few blocks for so many
+  pub blocks-le : {size : ℕ} {calls : Calls T A K S} {old new : State T A K S} {commands : List (Command T A)} {replies : List (Reply T)}
+      → RunsWithin size calls old commands replies new → old.main.items ≡ [] → AllByRecursion AddsOneAtMost commands
+      → FewBlocks old.main.growth (new.main.grown.blocks - old.main.grown.blocks) (length commands)
+  blocks-le {old = old} {commands = commands} r empty a =
+      let few = added-le r.run.turns (subst (AllByRecursion AddsOneAtMost) (sym r.run.commands_are) a) in
+      let count = simp length-map at (ap length r.run.commands_are) in
+      FewBlocks-more old.main.growth _ (sum_by added r.run.turns) (length commands) (omega (arith, few, count)) (r.blocks empty (all_add_or_remove commands a))
 
   -- each command has one reply
   pub replies-count : {size : ℕ} {calls : Calls T A K S} {old new : State T A K S} {commands : List (Command T A)} {replies : List (Reply T)}

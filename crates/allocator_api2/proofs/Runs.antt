@@ -3,7 +3,7 @@ use Rattle.allocator_api2.proofs.Common.{ℕ, ◌≡◌, ◌≤◌, max, List, [
 use Rattle.std.proofs.lemmas.List.{map-append}
 use Rattle.allocator_api2.specs.Run.{greatest_length}
 use Rattle.allocator_api2.proofs.Paid.{places_for, places_for-le}
-use Rattle.allocator_api2.proofs.WholeRuns.{IsUnhinted, moves_law, places_law, writes_law}
+use Rattle.allocator_api2.proofs.WholeRuns.{IsUnhinted, blocks_law, held_law, moves_law, places_law, writes_law}
 
 module _ {T A K S : Type 0} (size : ℕ) (calls : Calls T A K S) where
   -- two runs, one after the other, are one
@@ -45,8 +45,10 @@ module _ {T A K S : Type 0} (size : ℕ) (calls : Calls T A K S) where
         record {
           run = record { possible = h.began; turns = h.turns; run = h.run; commands_are = are; replies_are = refl };
           growth = λ empty plain. moves_law size calls old h.turns now h.run empty (subst (AllByRecursion AddsOrRemoves) (sym are) plain);
+          blocks = λ empty plain. blocks_law size calls old h.turns now h.run empty (subst (AllByRecursion AddsOrRemoves) (sym are) plain);
           capacity = λ empty none plain. omega (arith, places empty none plain, places_for-le old.main.growth (greatest_length h.turns));
           sparing = λ grows empty none plain. subst (λ g. now.main.capacity ≤ max 8 (places_for g (greatest_length h.turns))) grows (places empty none plain);
+          held = λ empty none plain. held_law size calls old h.turns now h.run empty none (subst (AllByRecursion IsUnhinted) (sym are) plain);
           writes = writes_law size calls old h.turns now h.run;
         },
       )

@@ -2,7 +2,10 @@
 use Rattle.allocator_api2.proofs.Common.{◌≡◌, ℕ, ◌+◌, ◌*◌, ◌≤◌, max, List, [], ◌∷◌, map, length, sum_by, sym, ap, subst, refl, rules, arith, AllByRecursion, sum_by-cons, Growth, None, len, Command, State, Calls, Turn, IsRun, AddsOrRemoves, hint_of, added, moves_each}
 use Rattle.std.proofs.Common.{add-zero, zero-add}
 use Rattle.allocator_api2.specs.Run.{cost, greatest_length}
-use Rattle.allocator_api2.proofs.Paid.{IsPaid, IsPaid-change, IsPlaced, IsPlaced-change, places_for}
+use Rattle.std.specs.Prelude.{◌-◌}
+use Rattle.aa_raw.specs.Growths.{FewBlocks, Growths, most_held}
+use Rattle.aa_raw.proofs.Costs.{FewBlocks-none, FewPlaces-none}
+use Rattle.allocator_api2.proofs.Paid.{IsPaid, IsPaid-change, IsPlaced, IsPlaced-change, Pays, most_held-places, places_for}
 use Rattle.allocator_api2.proofs.Steps.{change_of}
 
 -- the command has no hint
@@ -15,27 +18,62 @@ module _ {T A K S : Type 0} (size : ℕ) (calls : Calls T A K S) where
   writes_law old (t ∷ ts) new r = omega (arith, ap (λ s. s.main.written) r.0, sum_by-cons cost t ts, writes_law t.after ts new r.2, r.1.writes)
 
   -- what is added is paid for, step by step
-  paid_run : (G : Growth) (paid n : ℕ) (old : State T A K S) (ts : List (Turn T A K S)) (new : State T A K S) → IsRun size calls old ts new → IsPaid size G paid n old.main → AllByRecursion AddsOrRemoves (map (λ t. t.command) ts) → IsPaid size G paid (n + sum_by added ts) new.main
+  paid_run : (G : Growth) (paid : Growths) (n : ℕ) (old : State T A K S) (ts : List (Turn T A K S)) (new : State T A K S) → IsRun size calls old ts new → IsPaid size G paid n old.main → AllByRecursion AddsOrRemoves (map (λ t. t.command) ts) → IsPaid size G paid (n + sum_by added ts) new.main
   paid_run G paid n old [] new r p a = rw (r, add-zero) p
   paid_run G paid n old (t ∷ ts) new r p a =
       let q : IsPaid size G paid (n + added t) t.after.main = IsPaid-change size G paid (hint_of t.command) n _ t.before.main t.after.main (rw r.0 p) (change_of size calls t.before t.command t.results t.reply t.after a.0 r.1.step) in
       let e : n + sum_by added (t ∷ ts) ≡ n + added t + sum_by added ts = omega (arith, sum_by-cons added t ts) in
       subst (λ k. IsPaid size G paid k new.main) (sym e) (paid_run G paid (n + added t) t.after ts new r.2 q a.1)
 
-  pub moves_law : (old : State T A K S) (ts : List (Turn T A K S)) (new : State T A K S) → IsRun size calls old ts new → old.main.items ≡ [] → AllByRecursion AddsOrRemoves (map (λ t. t.command) ts) → new.main.grown ≤ old.main.grown + moves_each old.main.growth * sum_by added ts
-  moves_law old ts new r empty plain =
-      let start : IsPaid size old.main.growth old.main.grown 0 old.main = search (rules, arith, ap length empty) in
-      rw zero-add at (paid_run old.main.growth old.main.grown 0 old ts new r start plain).moved
+  -- from an empty vector
+  paid_from_empty : (old : State T A K S) (ts : List (Turn T A K S)) (new : State T A K S) → IsRun size calls old ts new → old.main.items ≡ [] → AllByRecursion AddsOrRemoves (map (λ t. t.command) ts)
+      → Pays size old.main.growth old.main.grown (sum_by added ts) new.main
+  paid_from_empty old ts new r empty plain =
+      let start : IsPaid size old.main.growth old.main.grown 0 old.main = record {
+        fits = omega (arith, ap length empty);
+        counted = omega (arith, ap length empty);
+        pays = record {
+          growth = refl;
+          places = omega arith;
+          moved = omega arith;
+          taken = 0;
+          blocks = omega arith;
+          for_places = FewPlaces-none old.main.growth old.main.capacity;
+          few = FewBlocks-none old.main.growth 0;
+        };
+      } in
+      rw zero-add at (paid_run old.main.growth old.main.grown 0 old ts new r start plain).pays
 
-  placed_run : (G : Growth) (most : ℕ) (old : State T A K S) (ts : List (Turn T A K S)) (new : State T A K S) → IsRun size calls old ts new → IsPlaced size G most old.main → AllByRecursion IsUnhinted (map (λ t. t.command) ts) → IsPlaced size G (max most (greatest_length ts)) new.main
-  placed_run G most old [] new r p a = rw r (let e : max most 0 ≡ most = omega arith in rw e p)
-  placed_run G most old (t ∷ ts) new r p a =
-      let q = IsPlaced-change size G (hint_of t.command) a.0.1 most _ t.before.main t.after.main (rw r.0 p) (change_of size calls t.before t.command t.results t.reply t.after a.0.0 r.1.step) in
+  pub moves_law : (old : State T A K S) (ts : List (Turn T A K S)) (new : State T A K S) → IsRun size calls old ts new → old.main.items ≡ [] → AllByRecursion AddsOrRemoves (map (λ t. t.command) ts)
+      → new.main.grown.moved ≤ old.main.grown.moved + moves_each old.main.growth * sum_by added ts
+  moves_law old ts new r empty plain = (paid_from_empty old ts new r empty plain).moved
+
+  pub blocks_law : (old : State T A K S) (ts : List (Turn T A K S)) (new : State T A K S) → IsRun size calls old ts new → old.main.items ≡ [] → AllByRecursion AddsOrRemoves (map (λ t. t.command) ts)
+      → FewBlocks old.main.growth (new.main.grown.blocks - old.main.grown.blocks) (sum_by added ts)
+  blocks_law old ts new r empty plain =
+      let p = paid_from_empty old ts new r empty plain in
+      subst (λ k. FewBlocks old.main.growth k (sum_by added ts)) (omega (arith, p.blocks)) p.few
+
+  placed_run : (G : Growth) (before most : ℕ) (old : State T A K S) (ts : List (Turn T A K S)) (new : State T A K S) → IsRun size calls old ts new → IsPlaced size G before most old.main → AllByRecursion IsUnhinted (map (λ t. t.command) ts)
+      → IsPlaced size G before (max most (greatest_length ts)) new.main
+  placed_run G before most old [] new r p a = rw r (let e : max most 0 ≡ most = omega arith in rw e p)
+  placed_run G before most old (t ∷ ts) new r p a =
+      let q = IsPlaced-change size G before (hint_of t.command) a.0.1 most _ t.before.main t.after.main (rw r.0 p) (change_of size calls t.before t.command t.results t.reply t.after a.0.0 r.1.step) in
       let e : max most (greatest_length (t ∷ ts)) ≡ max (max most (len t.after.main)) (greatest_length ts) = omega arith in
-      subst (λ k. IsPlaced size G k new.main) (sym e) (placed_run G (max most (len t.after.main)) t.after ts new r.2 q a.1)
+      subst (λ k. IsPlaced size G before k new.main) (sym e) (placed_run G before (max most (len t.after.main)) t.after ts new r.2 q a.1)
 
-  pub places_law : (old : State T A K S) (ts : List (Turn T A K S)) (new : State T A K S) → IsRun size calls old ts new → old.main.items ≡ [] → old.main.capacity ≡ 0 → AllByRecursion IsUnhinted (map (λ t. t.command) ts) → new.main.capacity ≤ max 8 (places_for old.main.growth (greatest_length ts))
-  places_law old ts new r empty none plain =
-      let start : IsPlaced size old.main.growth 0 old.main = record { growth = refl; fits = omega (arith, ap length empty); capacity = omega (arith, none) } in
+  placed_from_empty : (old : State T A K S) (ts : List (Turn T A K S)) (new : State T A K S) → IsRun size calls old ts new → old.main.items ≡ [] → old.main.capacity ≡ 0 → AllByRecursion IsUnhinted (map (λ t. t.command) ts)
+      → IsPlaced size old.main.growth old.main.grown.held (greatest_length ts) new.main
+  placed_from_empty old ts new r empty none plain =
+      let start : IsPlaced size old.main.growth old.main.grown.held 0 old.main =
+      record { growth = refl; fits = omega (arith, ap length empty); capacity = omega (arith, none); held = omega arith } in
       let e : max 0 (greatest_length ts) ≡ greatest_length ts = omega arith in
-      subst (λ n. new.main.capacity ≤ max 8 (places_for old.main.growth n)) e (placed_run old.main.growth 0 old ts new r start plain).capacity
+      subst (λ n. IsPlaced size old.main.growth old.main.grown.held n new.main) e (placed_run old.main.growth old.main.grown.held 0 old ts new r start plain)
+
+  pub places_law : (old : State T A K S) (ts : List (Turn T A K S)) (new : State T A K S) → IsRun size calls old ts new → old.main.items ≡ [] → old.main.capacity ≡ 0 → AllByRecursion IsUnhinted (map (λ t. t.command) ts)
+      → new.main.capacity ≤ max 8 (places_for old.main.growth (greatest_length ts))
+  places_law old ts new r empty none plain = (placed_from_empty old ts new r empty none plain).capacity
+
+  pub held_law : (old : State T A K S) (ts : List (Turn T A K S)) (new : State T A K S) → IsRun size calls old ts new → old.main.items ≡ [] → old.main.capacity ≡ 0 → AllByRecursion IsUnhinted (map (λ t. t.command) ts)
+      → new.main.grown.held ≤ max old.main.grown.held (most_held old.main.growth (greatest_length ts))
+  held_law old ts new r empty none plain = omega (arith, (placed_from_empty old ts new r empty none plain).held, most_held-places old.main.growth (greatest_length ts))

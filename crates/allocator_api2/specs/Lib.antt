@@ -22,6 +22,7 @@ pub use Rattle.aa_raw.specs.EntriesLends
 pub use Rattle.aa_raw.specs.EntriesMut
 pub use Rattle.aa_raw.specs.Errors
 pub use Rattle.aa_raw.specs.Growth
+pub use Rattle.aa_raw.specs.Growths
 pub use Rattle.aa_raw.specs.IntoIter
 pub use Rattle.aa_raw.specs.IntoIterLends
 pub use Rattle.aa_raw.specs.Places

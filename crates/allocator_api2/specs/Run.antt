@@ -1,6 +1,7 @@
 -- Whole runs of the list machine, and the elements that they move and write.
 use Rattle.std.specs.Prelude.{◌≡◌, ℕ, ◌+◌, ◌-◌, ◌*◌, ◌/◌, ◌≤◌, max, Bool, not, List, [], ◌∷◌, map, slice_range, sum_by, if◌then◌else◌, Option, None, ⊤}
 use Rattle.std.specs.List.{AllByRecursion}
+use Rattle.aa_raw.specs.Growths.{FewBlocks, most_held}
 use Rattle.aa_raw.specs.declared.raw_vec.Growth.{Growth}
 use Rattle.aa_raw.specs.declared.raw_vec.Growth.TheVariants.{Doubling, Sparing, InPlace}
 use Rattle.aa_vec.specs.Choosing.{IsCallableInOrder, IsCallableAlong, kept_after_removed}
@@ -146,8 +147,12 @@ module _ {T A K S : Type 0} (size : ℕ) (calls : Calls T A K S) (old : State T 
     -- if main was empty at first and the commands only add or remove, growth moved at most two
     -- elements for each added one, or three if sparing
     pub growth : old.main.items ≡ [] → AllByRecursion AddsOrRemoves commands
-        → new.main.grown
-        ≤ old.main.grown + moves_each old.main.growth * sum_by added run.turns
+        → new.main.grown.moved
+        ≤ old.main.grown.moved + moves_each old.main.growth * sum_by added run.turns
+    -- and it allocated few blocks for them, at most `2 + log2 n` for `n` elements
+    pub blocks : old.main.items ≡ [] → AllByRecursion AddsOrRemoves commands
+        → FewBlocks old.main.growth (new.main.grown.blocks - old.main.grown.blocks)
+        (sum_by added run.turns)
     -- if it also had no capacity at first and no command has a hint, its capacity at the end is at
     -- most 8, or twice its greatest length. This holds for any growth policy
     pub capacity : old.main.items ≡ [] → old.main.capacity ≡ 0
@@ -158,6 +163,12 @@ module _ {T A K S : Type 0} (size : ℕ) (calls : Calls T A K S) (old : State T 
         → AllByRecursion (λ command. AddsOrRemoves command × (hint_of command ≡ None)) commands
         → let most = greatest_length run.turns in
         new.main.capacity ≤ max 8 (most + most / 2 - 1)
+    -- and at any time it held at most three times as many places as the greatest length, or two and
+    -- a half times as many if sparing
+    pub held : old.main.items ≡ [] → old.main.capacity ≡ 0
+        → AllByRecursion (λ command. AddsOrRemoves command × (hint_of command ≡ None)) commands
+        → new.main.grown.held
+        ≤ max old.main.grown.held (most_held old.main.growth (greatest_length run.turns))
     -- no more elements of main were written than the commands cost
     pub writes : new.main.written ≤ old.main.written + sum_by cost run.turns
 

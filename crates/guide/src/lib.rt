@@ -4,9 +4,10 @@
 //! conclusion from the contract of `run`.
 #![tactic(auto)]
 
-ghost use Rattle.std.specs.Prelude.{◌≡◌, ◌+◌, ◌*◌, ◌≤◌, [], length};
+ghost use Rattle.std.specs.Prelude.{◌≡◌, ◌+◌, ◌-◌, ◌*◌, ◌≤◌, [], length};
 ghost use Rattle.std.specs.List.{AllByRecursion};
 ghost use Rattle.allocator_api2.specs.Copies.{ClonesAreEqual};
+ghost use Rattle.allocator_api2.specs.Growths.{FewBlocks};
 ghost use Rattle.allocator_api2.specs.Run.{AddsOneAtMost};
 ghost use Rattle.allocator_api2.specs.Vector.{HasRoom};
 ghost use Rattle.allocator_api2.specs.declared.raw_vec.Growth.TheVariants.{Doubling};
@@ -51,8 +52,10 @@ where
     requires room { HasRoom replies.old (length commands.items) }
     requires copies { ClonesAreEqual T.is_clone }
 
-    // Growth is bounded by the number of commands.
-    ensures grown { main.new.grown ≤ main.old.grown + 2 * length commands.items }
+    // Growth is bounded by the number of commands, and so are the blocks: 2 + log2 of it.
+    ensures grown { main.new.grown.moved ≤ main.old.grown.moved + 2 * length commands.items }
+    ensures blocks { FewBlocks Doubling (main.new.grown.blocks - main.old.grown.blocks)
+        (length commands.items) }
     ensures replied { length replies.new.items ≡ length replies.old.items + length commands.items }
 {
     run(

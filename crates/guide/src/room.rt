@@ -48,7 +48,8 @@ pub fn add_pair<A: Allocator>(v: &mut Vec<u64, A>, a: u64, b: u64) -> Result<(),
     // Success leaves the pair at the end, and the capacity that is needed for it.
     ensures appended { OnOk result (v.new.items ≡ v.old.items ++ a ∷ b ∷ []) }
     ensures capacity { OnOk result (v.new.capacity ≡ max v.old.capacity (length v.old.items + 2)) }
-    ensures counts { OnOk result (v.new.grown ≤ v.old.grown + length v.old.items) }
+    ensures counts { OnOk result (v.new.grown.moved ≤ v.old.grown.moved + length v.old.items) }
+    ensures blocks { OnOk result (v.new.grown.blocks ≤ v.old.grown.blocks + 1) }
     // Failure changes nothing. The error is that of a request for so many elements of 8 bytes.
     ensures error { IfErr result (λ e. e ≡ error_for 8 (length v.old.items + 2)) }
     ensures unchanged { OnErr result (v.new ≡ v.old) }

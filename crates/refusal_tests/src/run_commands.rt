@@ -4,6 +4,7 @@
 //! request does, or past the limits, is in none.
 ghost use Rattle.std.specs.Prelude.{◌≡◌, ℕ, List, [], ◌∷◌};
 ghost use Rattle.aa_raw.specs.declared.raw_vec.Growth.TheVariants.{Doubling};
+ghost use Rattle.allocator_api2.specs.Growths.{of_new};
 ghost use Rattle.allocator_api2.specs.Run.{cost_of};
 ghost use Rattle.allocator_api2.specs.declared.runner.Command.TheVariants.{ExtractIf};
 ghost use Rattle.allocator_api2.specs.declared.runner.Reply.TheVariants.{Done};
@@ -375,7 +376,7 @@ fn two_taken_out()
       items = xs;
       capacity = 6;
       growth = Doubling;
-      grown = 0;
+      grown = of_new 4 6;
       written = 0;
       runs = 0;
       alloc = 0;

@@ -2,6 +2,7 @@
 use Rattle.vecscript.proofs.Common.{◌≡◌, ◌≢◌, ◌∙◌, inl, inr, ℕ, ◌^◌, Bool, true, false, List, [], ◌∷◌, length, sym, ap, arith, codes, Option, Some, Result, Ok, Err, Fault, Global, Vector, Command, AllZip, Denotes, IsBad, Say, words_of, nat_tests}
 use Rattle.std.specs.Prelude.{MatchBool, MatchOption, IfErr, ◌⊎◌}
 use Rattle.allocator_api2.specs.declared.raw_vec.Growth.TheVariants.{Doubling}
+use Rattle.allocator_api2.specs.Growths.{of_new}
 use Rattle.allocator_api2.specs.declared.runner.Command.TheVariants.{Extend, Splice}
 use Rattle.vecscript.specs.Faults.{ReadsAs, ReadsAsOrOutOfMemory, Decides}
 use Rattle.vecscript.specs.declared.script.Fault.TheVariants.{BadLine, OutOfMemory}
@@ -11,7 +12,7 @@ use Rattle.vecscript.specs.Names.{SaysExtend, SaysSplice}
 -- a vector of these elements
 abbrev listed : List ℕ → Vector ℕ Global
 listed xs =
-    record { items = xs; capacity = 0; growth = Doubling; grown = 0; written = 0; runs = 0; alloc = record { memory = record { seal = tt } }; spare = [] }
+    record { items = xs; capacity = 0; growth = Doubling; grown = of_new 0 0; written = 0; runs = 0; alloc = record { memory = record { seal = tt } }; spare = [] }
 
 -- the words after a hint are elements or not
 pub extend-decided : (b : Bool) (word : List ℕ) (words all : List (List ℕ)) (hint : Option ℕ) → all ≡ word ∷ words → IsHint word hint

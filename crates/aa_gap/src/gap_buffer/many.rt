@@ -112,13 +112,13 @@ impl<T, A: Allocator> GapBuffer<T, A> {
             × WholeRun I.IntoIter.next_gives it (λ p. b.before ≡ p.items)) }
         ensures fits { ((it : I.IntoIter) → I.into_iter_gives iter it
             → size (I.IntoIter.remaining it) ≤ new_capacity (type_size T.row) 0) → IsOk result }
-        ensures made { let none = empty (new_capacity (type_size T.row) 0) Doubling alloc in
+        ensures made { let none = empty (type_size T.row) 0 Doubling alloc in
             IfOk result (λ b. (it : I.IntoIter) × I.into_iter_gives iter it
             × ExtendsByAll I.IntoIter.next_gives I.IntoIter.remaining (type_size T.row)
             it none b) }
 
         // Failure is that of `extend` on an empty text.
-        ensures error { let none = empty (new_capacity (type_size T.row) 0) Doubling alloc in
+        ensures error { let none = empty (type_size T.row) 0 Doubling alloc in
             IfErr result (λ e. (it : I.IntoIter) × (left : Buffer T A) × I.into_iter_gives iter it
             × ExtendFails I.IntoIter.next_gives I.IntoIter.remaining
             (type_size T.row) it none e left) }

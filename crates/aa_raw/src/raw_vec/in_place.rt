@@ -45,6 +45,7 @@ impl<T, A: Allocator> RawVec<T, A> {
             capacity,
         );
         if grown {
+            self.grown.add_block(len, capacity);
             self.word = word;
         }
         grown

@@ -154,7 +154,7 @@ impl<T, A: Allocator> RawVec<T, A> {
                 row.take_run(0, &mut self.row, first.0, first.1);
                 row.take_run(to, &mut self.row, second.0, second.1);
                 self.replace_row(capacity, row, claim);
-                self.grown.add(first.1 + second.1);
+                self.grown.add_moved(first.1 + second.1);
                 true
             }
             Err(_) => false,

@@ -4,6 +4,7 @@ ghost use Rattle.std.specs.List.{AllZip};
 ghost use Rattle.std.specs.Mem.{type_size};
 ghost use Rattle.aa_raw.specs.Clones.{ClonesCannotFail, ClonesAreEqual, HoldsClones};
 ghost use Rattle.aa_raw.specs.Growth.{new_capacity};
+ghost use Rattle.aa_raw.specs.Growths.{of_new};
 ghost use Rattle.aa_raw.specs.Errors.{ClonesFail};
 
 use crate::collections::{TryReserveError, TryReserveErrorKind};
@@ -32,7 +33,8 @@ impl<T: Clone, A: Allocator + Clone> IntoIter<T, A> {
         ensures capacity { IfOk result
             (λ copy. copy.capacity ≡ new_capacity (type_size T.row) (length self.now.items)) }
         ensures counts { let n = length self.now.items in IfOk result
-            (λ copy. (copy.grown ≡ 0) × (copy.written ≡ n) × (copy.runs ≡ n)) }
+            (λ copy. (copy.grown ≡ of_new (type_size T.row) n) × (copy.written ≡ n)
+            × (copy.runs ≡ n)) }
 
         // If every clone equals its source, the items are the same.
         ensures copied { ClonesAreEqual T.is_clone → IfOk result

@@ -13,7 +13,7 @@ use std::default::{Emptied, MadeWith};
 use std::iter::{Extend, FromIterator};
 
 impl<T, A: Allocator> MadeWith<A> for Ring<T, A> {
-    ghost is_made_with = { λ r. r ≡ empty (new_capacity (type_size T.row) 0) Doubling r.alloc };
+    ghost is_made_with = { λ r. r ≡ empty (type_size T.row) 0 Doubling r.alloc };
 
     /// Returns an empty ring over `alloc`.
     ///
@@ -24,12 +24,12 @@ impl<T, A: Allocator> MadeWith<A> for Ring<T, A> {
 }
 
 impl<T, A: Allocator + Clone> Emptied for Ring<T, A> {
-    ghost is_emptied = { λ r. r ≡ empty (new_capacity (type_size T.row) 0) Doubling r.alloc };
+    ghost is_emptied = { λ r. r ≡ empty (type_size T.row) 0 Doubling r.alloc };
 
     /// Returns an empty ring over a clone of the allocator of `like`.
     fn emptied(like: &Self) -> Result<Self, AllocError>
         ensures made { IfOk result
-            (λ r. r ≡ empty (new_capacity (type_size T.row) 0) Doubling r.alloc) }
+            (λ r. r ≡ empty (type_size T.row) 0 Doubling r.alloc) }
         ensures fits { A.is_infallible like.now.alloc → IsOk result }
     {
         Ok(Ring::new_in(like.allocator().clone()?))
@@ -40,7 +40,7 @@ impl<T: Drop, A: Allocator> FromIterator<T> for Ring<T, A> {
     type Alloc = A;
 
     ghost from_iter_gives = { λ xs r. (a : A) × HasExtended (type_size T.row)
-        (empty (new_capacity (type_size T.row) 0) Doubling a) xs r };
+        (empty (type_size T.row) 0 Doubling a) xs r };
 
     /// Returns the items of `iter` as `from_iter_in` does, but its error has no number.
     fn from_iter<I: IntoIterator<Item = T>>(alloc: A, iter: I) -> Result<Self, AllocError>
@@ -48,7 +48,7 @@ impl<T: Drop, A: Allocator> FromIterator<T> for Ring<T, A> {
             I.IntoIter.remaining iter }
         ensures collected { IfOk result (λ r. (it : I.IntoIter) × (xs : List T)
             × I.into_iter_gives iter it × Drains I.IntoIter.next_gives it xs × (a : A)
-            × HasExtended (type_size T.row) (empty (new_capacity (type_size T.row) 0) Doubling a)
+            × HasExtended (type_size T.row) (empty (type_size T.row) 0 Doubling a)
             xs r) }
         ensures fits { ((it : I.IntoIter) → I.into_iter_gives iter it
             → size (I.IntoIter.remaining it) ≤ new_capacity (type_size T.row) 0) → IsOk result }

@@ -108,13 +108,13 @@ impl<T, A: Allocator> Ring<T, A> {
             × WholeRun I.IntoIter.next_gives it (λ p. r.items ≡ p.items)) }
         ensures fits { ((it : I.IntoIter) → I.into_iter_gives iter it
             → size (I.IntoIter.remaining it) ≤ new_capacity (type_size T.row) 0) → IsOk result }
-        ensures made { let none = empty (new_capacity (type_size T.row) 0) Doubling alloc in
+        ensures made { let none = empty (type_size T.row) 0 Doubling alloc in
             IfOk result (λ r. (it : I.IntoIter) × I.into_iter_gives iter it
             × ExtendsByAll I.IntoIter.next_gives (LowerAtMost I.IntoIter.remaining)
             (type_size T.row) it none r) }
 
         // Failure is that of `extend` on an empty ring.
-        ensures error { let none = empty (new_capacity (type_size T.row) 0) Doubling alloc in
+        ensures error { let none = empty (type_size T.row) 0 Doubling alloc in
             IfErr result (λ e. (it : I.IntoIter) × (left : Ringed T A)
             × I.into_iter_gives iter it
             × ExtendFails I.IntoIter.next_gives (LowerAtMost I.IntoIter.remaining)

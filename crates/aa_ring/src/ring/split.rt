@@ -2,7 +2,6 @@
 ghost use Rattle.std.specs.Prelude.{◌≡◌, ◌-◌, ◌≤◌, ◌++◌, length, take, drop, IfErr, IfOk, OnErr, OnOk};
 ghost use Rattle.std.specs.Mem.{type_size};
 ghost use Rattle.allocator_api2.specs.Errors.{ClonesFail};
-ghost use Rattle.allocator_api2.specs.Growth.{new_capacity};
 ghost use Rattle.aa_ring.specs.Ringed.{empty, with_written, HasRoom};
 
 use crate::ring::Ring;
@@ -29,8 +28,7 @@ impl<T, A: Allocator> Ring<T, A> {
         // Success leaves the two parts.
         ensures head { OnOk result (self.new ≡ with_written self.old (take at self.old.items) 0) }
         ensures tail { let n = length self.old.items - at in
-            let made = new_capacity (type_size T.row) n in
-            IfOk result (λ r. r ≡ with_written (empty made self.old.growth r.alloc)
+            IfOk result (λ r. r ≡ with_written (empty (type_size T.row) n self.old.growth r.alloc)
             (drop at self.old.items) n) }
         ensures alloc { IfOk result (λ r. A.is_clone self.old.alloc r.alloc) }
 
@@ -69,8 +67,8 @@ impl<T, A: Allocator> Ring<T, A> {
     pub(super) fn empty_like(&self, capacity: usize) -> Result<Self, TryReserveError>
     where
         A: Clone,
-        ensures made { let made = new_capacity (type_size T.row) capacity in
-            IfOk result (λ r. r ≡ empty made self.now.growth r.alloc) }
+        ensures made { IfOk result
+            (λ r. r ≡ empty (type_size T.row) capacity self.now.growth r.alloc) }
         ensures alloc { IfOk result (λ r. A.is_clone self.now.alloc r.alloc) }
         ensures error { IfErr result
             (ClonesFail (A.is_infallible self.now.alloc) capacity (type_size T.row)) }

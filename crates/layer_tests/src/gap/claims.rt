@@ -4,7 +4,7 @@ ghost use Rattle.std.specs.Prelude.{◌≡◌, ℕ, ◌+◌, ◌*◌, ◌<◌, �
 ghost use Rattle.std.specs.Mem.{type_size};
 ghost use Rattle.std.specs.Iterator.{IsFinite, YieldsThen};
 ghost use Rattle.aa_raw.specs.declared.raw_vec.Growth.TheVariants.{Doubling, Sparing};
-ghost use Rattle.aa_raw.specs.Growth.{new_capacity};
+ghost use Rattle.aa_raw.specs.Growths.{FewBlocks, most_held};
 ghost use Rattle.std.specs.List.{Contains};
 ghost use Rattle.aa_gap.specs.Buffer.{empty, len, gap, text as whole};
 ghost use Rattle.aa_gap.specs.Editing.{with_edit};
@@ -16,11 +16,12 @@ use aa_gap::gap_buffer::{Edit, GapBuffer};
 use aa_raw::collections::{Refused, TryReserveError};
 use std::alloc::{AllocError, Allocator, Global};
 
-// An insert without spare capacity: wherever the cursor is, it moves the text to the new block,
-// each element once, and writes nothing but its item.
+// An insert without spare capacity: wherever the cursor is, it moves the text to one new block, each
+// element once, and writes nothing but its item.
 fn added<T, A: Allocator>(text: &mut GapBuffer<T, A>, item: T) -> Result<(), Refused<T>>
     requires { gap text.old ≡ 0 }
-    ensures grown { OnOk result (text.new.grown ≡ text.old.grown + len text.old) }
+    ensures grown { OnOk result (text.new.grown.moved ≡ text.old.grown.moved + len text.old) }
+    ensures blocks { OnOk result (text.new.grown.blocks ≡ text.old.grown.blocks + 1) }
     ensures written { OnOk result (text.new.written ≡ text.old.written + 1) }
     ensures runs { OnOk result (text.new.runs ≡ text.old.runs + 1) }
 {
@@ -35,7 +36,8 @@ fn reserves<T, A: Allocator>(
     requires { gap text.old < count }
     ensures parts { OnOk result
         ((text.new.before ≡ text.old.before) × (text.new.after ≡ text.old.after)) }
-    ensures grown { OnOk result (text.new.grown ≡ text.old.grown + len text.old) }
+    ensures grown { OnOk result (text.new.grown.moved ≡ text.old.grown.moved + len text.old) }
+    ensures blocks { OnOk result (text.new.grown.blocks ≡ text.old.grown.blocks + 1) }
     ensures written { OnOk result (text.new.written ≡ text.old.written) }
     ensures runs { OnOk result (text.new.runs ≡ text.old.runs) }
     ensures unchanged { OnErr result (text.new ≡ text.old) }
@@ -43,8 +45,9 @@ fn reserves<T, A: Allocator>(
     text.reserve(count)
 }
 
-// A text made by edits is the empty one after them, and growth moves at most two elements for each
-// insert, whatever is deleted between.
+// A text made by edits is the empty one after them. Whatever is deleted between, growth moves at
+// most two elements for each insert, allocates few blocks, and holds at most three places for each
+// insert at once, or one for each and eight.
 #[tactic(auto, using(aa_gap::proofs::Callers::callers))]
 fn made_by<T: Drop, A: Allocator, I: Iterator<Item = Edit<T>>>(
     edits: &mut I,
@@ -55,8 +58,9 @@ fn made_by<T: Drop, A: Allocator, I: Iterator<Item = Edit<T>>>(
     ensures { let size = type_size T.row in
         IfOk result
         (λ text. (done : List (Edit T)) × YieldsThen I.next_gives edits.old done None edits.new
-        × (text ≡ fold (with_edit size) (empty (new_capacity size 0) Doubling alloc) done)
-        × (text.grown ≤ 2 * inserts done)) }
+        × (text ≡ fold (with_edit size) (empty size 0 Doubling alloc) done)
+        × (text.grown.moved ≤ 2 * inserts done) × FewBlocks Doubling text.grown.blocks (inserts done)
+        × (text.grown.held ≤ most_held Doubling (inserts done))) }
 {
     let mut text = GapBuffer::new_in(alloc);
     text.edit_all(edits)?;
@@ -104,26 +108,45 @@ fn moved<T: Drop, A: Allocator>(
     text.into_iter().collect(alloc)
 }
 
-// Five inserts: 4 places, and at the fifth 8. The four before it are moved, and each is written
-// once. (A number represents the allocator.)
+// Five inserts: 4 places, and at the fifth 8. The four before it are moved, while both blocks are
+// held, and each is written once. (A number represents the allocator.)
 fn five_inserts()
-    ensures { fold (with_edit {T = ℕ} {A = ℕ} 4) (empty 0 Doubling 0) (replicate 5 (Insert 7))
+    ensures { fold (with_edit {T = ℕ} {A = ℕ} 4) (empty 4 0 Doubling 0) (replicate 5 (Insert 7))
         ≡ record {
           before = replicate 5 7;
           after = [];
           capacity = 8;
           growth = Doubling;
-          grown = 4;
+          grown = record { moved = 4; blocks = 2; held = 12 };
           written = 5;
           runs = 5;
           alloc = 0;
         } }
 {}
 
+// Seventeen inserts: blocks of 4, 8, 16 and 32 places, the last two of which are held at once. These
+// are few blocks, and at most three places for each insert.
+fn seventeen_inserts()
+    ensures counts { fold (with_edit {T = ℕ} {A = ℕ} 4) (empty 4 0 Doubling 0)
+        (replicate 17 (Insert 7))
+        ≡ record {
+          before = replicate 17 7;
+          after = [];
+          capacity = 32;
+          growth = Doubling;
+          grown = record { moved = 28; blocks = 4; held = 48 };
+          written = 17;
+          runs = 17;
+          alloc = 0;
+        } }
+    ensures few { FewBlocks Doubling 4 17 }
+    ensures held { 48 ≤ most_held Doubling 17 }
+{}
+
 // 1, 2 and 3, a move back to after the first, then 9 and 8. Then the elements on either side of the
 // cursor are deleted.
 fn worked()
-    ensures { fold (with_edit {T = ℕ} {A = ℕ} 4) (empty 0 Doubling 0)
+    ensures { fold (with_edit {T = ℕ} {A = ℕ} 4) (empty 4 0 Doubling 0)
         (Insert 1 ∷ Insert 2 ∷ Insert 3 ∷ MoveTo 1 ∷ Insert 9 ∷ Insert 8 ∷ DeleteForward
         ∷ DeleteBack ∷ [])
         ≡ record {
@@ -131,7 +154,7 @@ fn worked()
           after = 3 ∷ [];
           capacity = 8;
           growth = Doubling;
-          grown = 4;
+          grown = record { moved = 4; blocks = 2; held = 12 };
           written = 7;
           runs = 6;
           alloc = 0;
@@ -142,7 +165,7 @@ fn worked()
 // again. In a full text the cursor moves for free. Deletions do not change the capacity, so that
 // the insert after them does not allocate.
 fn inserts_in_the_middle()
-    ensures { fold (with_edit {T = ℕ} {A = ℕ} 4) (empty 0 Doubling 0)
+    ensures { fold (with_edit {T = ℕ} {A = ℕ} 4) (empty 4 0 Doubling 0)
         (Insert 1 ∷ Insert 2 ∷ Insert 3 ∷ Insert 4 ∷ MoveTo 1 ∷ Insert 9 ∷ DeleteBack
         ∷ DeleteForward ∷ Insert 8 ∷ [])
         ≡ record {
@@ -150,7 +173,7 @@ fn inserts_in_the_middle()
           after = 3 ∷ 4 ∷ [];
           capacity = 8;
           growth = Doubling;
-          grown = 4;
+          grown = record { moved = 4; blocks = 2; held = 12 };
           written = 6;
           runs = 6;
           alloc = 0;
@@ -160,13 +183,13 @@ fn inserts_in_the_middle()
 // Bytes have 8 places at first, and a sparing growth makes half as many more of them: 12 for the
 // ninth.
 fn nine_bytes()
-    ensures { fold (with_edit {T = ℕ} {A = ℕ} 1) (empty 0 Sparing 0) (replicate 9 (Insert 7))
+    ensures { fold (with_edit {T = ℕ} {A = ℕ} 1) (empty 1 0 Sparing 0) (replicate 9 (Insert 7))
         ≡ record {
           before = replicate 9 7;
           after = [];
           capacity = 12;
           growth = Sparing;
-          grown = 8;
+          grown = record { moved = 8; blocks = 2; held = 20 };
           written = 9;
           runs = 9;
           alloc = 0;

@@ -174,3 +174,13 @@ fn a_text_grows_where_an_insert_finds_no_place(rt: HostRuntime) {
         );
     }
 }
+
+#[test]
+fn seventeen_inserts_make_four_requests(rt: HostRuntime) {
+    let heap = Faulty::new(rt.alloc());
+    let mut text: GapBuffer<u32, _> = GapBuffer::new_in(&heap);
+    for x in 0..17u32 {
+        assert!(rt; put(&mut text, x));
+    }
+    assert!(rt; text.capacity() == 32 && heap.requests() == 4);
+}

@@ -15,11 +15,12 @@ use denote.Model.Placed.{view_places}
 use Rattle.std.specs.Option.{option_map}
 use Rattle.std.specs.declared.alloc.Allocator.{Ghosts}
 use Rattle.aa_raw.specs.Held.{slots, w_slots, slots_recoded, pair_recoded}
-use Rattle.aa_raw.specs.Block.{Block}
+use Rattle.aa_raw.specs.Block.{Block, Growths, of_new}
 use Rattle.aa_raw.specs.RawVecInner.{IsWhole}
 use Rattle.aa_raw.specs.declared.raw_vec.Growth.{Growth}
 use Rattle.aa_raw.specs.declared.raw_vec.Growth.TheVariants.{Doubling}
 use Rattle.aa_raw.specs.declared.counter.Counter.{Counter}
+use Rattle.aa_raw.specs.declared.counter.GrowthCounters.{GrowthCounters}
 use Rattle.aa_raw.specs.declared.raw_vec.RawVec.TheInside.{Inside}
 use Rattle.aa_raw.specs.declared.raw_vec.RawVec.TheView.{view, invariant}
 use Rattle.aa_raw.specs.contracts.raw_vec.RawVec as C
@@ -28,7 +29,7 @@ use Rattle.aa_raw.specs.formers.row.Row as row
 use Rattle.aa_raw.specs.formers.row.Claim as claim
 
 abbrev Rest : Type 0 → Type 0
-Rest Z = Growth × (ℕ × (ℕ × (ℕ × Z)))
+Rest Z = Growth × (Growths × (ℕ × (ℕ × Z)))
 
 abbrev pub the_former : Former {0} → Type 0 → Former {0}
 the_former g Z = via (pair (slots g) (const (Rest Z))) (λ X. Block (g.Of X) Z) (λ X b. (b.places, (b.growth, (b.grown, (b.written, (b.runs, b.alloc))))))
@@ -38,10 +39,10 @@ abbrev pub the_weighed : {g : Former {0}} → Weighed g → (Z : Type 0) → Wei
 the_weighed w Z = record { weight = λ X μ b. (w_slots w).weight X μ b.places; puts = λ X μ b. (w_slots w).puts X μ b.places }
 
 pub the_empty : (Z : Type 0) → Z → Block ⊥ Z
-the_empty Z z = record { places = []; growth = Doubling; grown = 0; written = 0; runs = 0; alloc = z }
+the_empty Z z = record { places = []; growth = Doubling; grown = of_new 0 0; written = 0; runs = 0; alloc = z }
 
 abbrev Others : Type 0 → Type 0
-Others Z = ℕ × (Counter × (Counter × (Counter × Z)))
+Others Z = ℕ × (GrowthCounters × (Counter × (Counter × Z)))
 
 abbrev fields : Type 0 → Former {0}
 fields Z = via (pair (row.the_former this) (pair (claim.the_former this Z) (const (Others Z)))) (λ X. Inside X Z)

@@ -29,14 +29,14 @@ use Rattle.aa_raw.specs.Places.{run, somes, IsRun}
 use Rattle.aa_raw.specs.declared.raw_vec.Growth.{Growth}
 use Rattle.aa_raw.specs.declared.raw_vec.Growth.TheVariants.{Doubling}
 use Rattle.aa_raw.specs.formers.raw_vec.RawVec as raw
-use Rattle.aa_vec.specs.Vector.{Vector}
+use Rattle.aa_vec.specs.Vector.{Vector, Growths, of_new}
 use Rattle.aa_vec.specs.declared.vec.Vec.TheInside.{Inside}
 use Rattle.aa_vec.specs.declared.vec.Vec.TheView.{view, invariant}
 use Rattle.aa_vec.specs.contracts.vec.Vec as C
 use Rattle.aa_vec.specs.contracts.vec.Vec.TheInside as I
 
 abbrev Rest : Type 0 → Type 0
-Rest Z = ℕ × (Growth × (ℕ × (ℕ × (ℕ × Z))))
+Rest Z = ℕ × (Growth × (Growths × (ℕ × (ℕ × Z))))
 
 abbrev pub the_former : Former {0} → Type 0 → Former {0}
 the_former g Z = via (pair (list g) (pair (slots g) (const (Rest Z)))) (λ X. Vector (g.Of X) Z)
@@ -52,7 +52,7 @@ the_weighed w Z =
     }
 
 pub the_empty : (Z : Type 0) → Z → Vector ⊥ Z
-the_empty Z z = record { items = []; capacity = 0; growth = Doubling; grown = 0; written = 0; runs = 0; alloc = z; spare = [] }
+the_empty Z z = record { items = []; capacity = 0; growth = Doubling; grown = of_new 0 0; written = 0; runs = 0; alloc = z; spare = [] }
 
 abbrev pub the_items : (Z X : Type 0) → Vector X Z → List X
 the_items Z X d = d.items ++ somes d.spare

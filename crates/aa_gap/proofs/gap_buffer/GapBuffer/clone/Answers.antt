@@ -1,6 +1,6 @@
 use Rattle.aa_gap.proofs.{[], empty, len, refl, type_size, ◌∙◌, ◌≡◌}
 use Rattle.aa_raw.proofs.Places.{length-empty_places}
-use Rattle.aa_raw.specs.Growth.{new_capacity}
+use Rattle.aa_raw.specs.Growths.{of_new}
 use Rattle.std.proofs.lemmas.List.Elements.{same_from_all_zip}
 use denote.Param.{param}
 use Rattle.aa_gap.proofs.Extending.{IsCopy-made, parts-made}
@@ -10,10 +10,11 @@ use Rattle.aa_gap.proofs.gap_buffer.GapBuffer.clone.Goals as goal
 -- the text that the clones are inserted into
 made-empty : (g : Over) (c : goal.After-move_to g) → let size = type_size (param 0 g.row.T) in
     c.with_block-copy.result
-    ≡ empty (new_capacity size (len c.args.self.now)) c.args.self.now.growth c.in-Ok.alloc
+    ≡ empty size (len c.args.self.now) c.args.self.now.growth c.in-Ok.alloc
 made-empty g c =
     let T = param 0 g.row.T in let b = c.args.self.now in
-    let long = length-empty_places T.Denot (type_size T) (len b) in
+    let size = type_size T in
+    let long = length-empty_places T.Denot size (len b) in
     let block = c.in_ok-block.ensures.made in
     let sizes = c.len-capacity.ensures.count in let growth = c.growth-growth.ensures in
     c.with_block-copy.ensures ∙ rw (block, sizes, growth) (λ i. record {
@@ -21,7 +22,7 @@ made-empty g c =
       after = [];
       capacity = long i;
       growth = b.growth;
-      grown = 0;
+      grown = of_new size (len b);
       written = 0;
       runs = 0;
       alloc = c.in-Ok.alloc;

@@ -17,6 +17,7 @@ use denote.Param.Weighed.{Weighed, most, List-puts}
 use denote.Model.Placed as placed
 use Rattle.std.specs.declared.alloc.Allocator.{Ghosts}
 use Rattle.aa_raw.specs.Held.{slots, pair_recoded}
+use Rattle.aa_raw.specs.Block.{Growths, of_new}
 use Rattle.aa_raw.specs.IntoIter.{Remaining}
 use Rattle.aa_raw.specs.IntoIterInner.{IsBetween}
 use Rattle.aa_raw.specs.Mapped.{first_none_over, others_over, run_over, IsRun-over, IsRun-under, IsRun-once, run_held}
@@ -28,7 +29,7 @@ use Rattle.aa_raw.specs.contracts.vec.into_iter.IntoIter.TheInside as I
 use Rattle.aa_raw.specs.formers.raw_vec.RawVec as raw
 
 abbrev Rest : Type 0 → Type 0
-Rest Z = ℕ × (ℕ × (ℕ × (ℕ × Z)))
+Rest Z = ℕ × (Growths × (ℕ × (ℕ × Z)))
 
 abbrev pub the_former : Former {0} → Type 0 → Former {0}
 the_former g Z = via (pair (list g) (const (Rest Z))) (λ X. Remaining (g.Of X) Z)
@@ -40,7 +41,7 @@ abbrev pub the_weighed : {g : Former {0}} → Weighed g → (Z : Type 0) → Wei
 the_weighed w Z = record { weight = λ X μ s. most (w.weight X μ) s.items; puts = λ X μ s. List-puts w X μ s.items }
 
 pub the_empty : (Z : Type 0) → Z → Remaining ⊥ Z
-the_empty Z z = record { items = []; capacity = 0; grown = 0; written = 0; runs = 0; alloc = z }
+the_empty Z z = record { items = []; capacity = 0; grown = of_new 0 0; written = 0; runs = 0; alloc = z }
 
 abbrev pub the_items : (Z X : Type 0) → Remaining X Z → List X
 the_items Z X s = s.items
