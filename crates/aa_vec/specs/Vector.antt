@@ -1,5 +1,7 @@
 -- A vector as contracts see it, and how it reserves capacity.
-use Rattle.std.specs.Prelude.{◌≡◌, ℕ, ◌+◌, ◌-◌, ◌≤◌, min, List, [], length, Option, if◌then◌else◌, nat_le}
+use Rattle.std.specs.Prelude.{◌≡◌, ℕ, ◌+◌, ◌-◌, ◌≤◌, min, List, [], drop, length, Option, if◌then◌else◌, nat_le}
+use Rattle.aa_raw.specs.Block.{Block}
+use Rattle.aa_raw.specs.Places.{run}
 use Rattle.aa_raw.specs.declared.raw_vec.Growth.{Growth}
 use Rattle.aa_raw.specs.declared.raw_vec.Growth.TheVariants.{Doubling}
 use Rattle.aa_raw.specs.declared.collections.TryReserveError.{TryReserveError}
@@ -121,6 +123,20 @@ module _ {T A : Type 0} where
         written = old.written + n;
         runs = old.runs + k;
         spare = new.spare;
+      }
+
+  -- the vector of the values in the first `n` places of the block `b`
+  abbrev pub vector_in : Block T A → ℕ → Vector T A
+  vector_in b n =
+      record {
+        items = run b.places 0 n;
+        capacity = length b.places;
+        growth = b.growth;
+        grown = b.grown;
+        written = b.written;
+        runs = b.runs;
+        alloc = b.alloc;
+        spare = drop n b.places;
       }
 
   -- `v` with the items `xs`, as many as it had

@@ -1,8 +1,11 @@
-//! Conversions from and to vectors; here into an iterator over the elements.
+//! Conversions from and to vectors; here into an iterator over the elements, and from and to a block.
 ghost use Rattle.std.specs.Prelude.{◌≡◌};
+ghost use Rattle.aa_raw.specs.Places.{IsRun};
 ghost use Rattle.aa_vec.specs.Boxes.{all_remaining};
+ghost use Rattle.aa_vec.specs.Vector.{vector_in};
 
 use crate::vec::{IntoIter, Vec};
+use aa_raw::raw_vec::RawVec;
 use std::alloc::Allocator;
 
 pub mod arrays;
@@ -17,6 +20,28 @@ impl<T, A: Allocator> Vec<T, A> {
     {
         let Vec { block, len } = self;
         IntoIter::from_block(block, len)
+    }
+
+    /// Returns the block of the vector, and the number of elements, which are in its first places.
+    ///
+    /// Does not allocate. Corresponds to allocator-api2's `into_raw_parts_with_alloc`.
+    pub fn into_block(self) -> (RawVec<T, A>, usize)
+        ensures filled { IsRun result.0.places 0 result.1 }
+        ensures same { vector_in result.0 result.1 ≡ self }
+    {
+        let Vec { block, len } = self;
+        (block, len)
+    }
+
+    /// Returns a vector of the values in the first `len` places of `block`.
+    ///
+    /// Does not allocate. The values in the other places are not dropped with the vector.
+    /// Corresponds to allocator-api2's `from_raw_parts_in`.
+    pub fn from_block(block: RawVec<T, A>, len: usize) -> Self
+        requires { IsRun block.places 0 len }
+        ensures { result ≡ vector_in block len }
+    {
+        Vec { block, len }
     }
 }
 
