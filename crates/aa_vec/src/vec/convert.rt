@@ -29,7 +29,7 @@ impl<T, A: Allocator> Vec<T, A> {
         ensures filled { IsRun result.0.places 0 result.1 }
         ensures same { vector_in result.0 result.1 ≡ self }
     {
-        let Vec { block, len } = self;
+        let Self { block, len } = self;
         (block, len)
     }
 
