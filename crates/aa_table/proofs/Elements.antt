@@ -1,12 +1,13 @@
 -- The keys of entries, as the elements of a set.
 use Rattle.std.proofs.Common.{Bool, false, true, List, Some, [], ap, arith, cond, length, refl, ◌∷◌, ◌≡◌, ◌≤◌}
 use Rattle.std.specs.Prelude.{IsPermutation, count_by, filter, find, is_some, map, ◌||◌}
-use Rattle.std.specs.Map.{remove_entry, set_value}
+use Rattle.std.specs.List.{list_any}
+use Rattle.std.specs.Map.{lookup, lookup_entry, remove_entry, set_value}
 use Rattle.std.specs.Option.{option_map}
-use Rattle.std.specs.Set.{is_member, remove_key}
+use Rattle.std.specs.Set.{remove_key}
 use Rattle.std.proofs.lemmas.List.Sorted.{IsPermutation-map}
 use Rattle.std.proofs.lemmas.List.Sums.{sum_by-cons}
-use Rattle.aa_table.specs.Contents.{entry_of, keys_like, value, IsMap}
+use Rattle.aa_table.specs.Contents.{keys_like, IsMap}
 use Rattle.aa_table.specs.SetContents.{AreDistinct}
 use Rattle.aa_table.proofs.Maps.{keys-cons}
 
@@ -23,31 +24,32 @@ module _ {T V : Type 0} where
       by true h = refl
       by false h = ap (λ xs. e.0 ∷ xs) h
 
-  module _ (eq : T → T → Bool) where
-    pub member : (es : List (T × V)) (k : T) → is_some (value eq es k) ≡ is_member eq (map (λ e. e.0) es) k
-    member [] k = refl
-    member (e ∷ es) k = by (eq k e.0) (member es k)
+  module _ (test : T → Bool) where
+    pub member : (es : List (T × V)) → is_some (lookup test es) ≡ list_any test (map (λ e. e.0) es)
+    member [] = refl
+    member (e ∷ es) = by (test e.0) (member es)
       where
-        by : (b : Bool) → is_some (value eq es k) ≡ is_member eq (keys es) k → is_some (cond b (Some e.1) (value eq es k)) ≡ (b || is_member eq (keys es) k)
+        by : (b : Bool) → is_some (lookup test es) ≡ list_any test (keys es) → is_some (cond b (Some e.1) (lookup test es)) ≡ (b || list_any test (keys es))
         by true h = refl
         by false h = h
 
-    pub found : (es : List (T × V)) (k : T) → option_map (λ e. e.0) (entry_of eq es k) ≡ find (eq k) (map (λ e. e.0) es)
-    found [] k = refl
-    found (e ∷ es) k = by (eq k e.0) (found es k)
+    pub found : (es : List (T × V)) → option_map (λ e. e.0) (lookup_entry test es) ≡ find test (map (λ e. e.0) es)
+    found [] = refl
+    found (e ∷ es) = by (test e.0) (found es)
       where
-        by : (b : Bool) → option_map (λ e. e.0) (entry_of eq es k) ≡ find (eq k) (keys es) → option_map (λ e. e.0) (cond b (Some e) (entry_of eq es k)) ≡ cond b (Some e.0) (find (eq k) (keys es))
+        by : (b : Bool) → option_map (λ e. e.0) (lookup_entry test es) ≡ find test (keys es) → option_map (λ e. e.0) (cond b (Some e) (lookup_entry test es)) ≡ cond b (Some e.0) (find test (keys es))
         by true h = refl
         by false h = h
 
-    pub without : (es : List (T × V)) (k : T) → map (λ e. e.0) (remove_entry (eq k) es) ≡ remove_key (eq k) (map (λ e. e.0) es)
-    without [] k = refl
-    without (e ∷ es) k = by (eq k e.0) (without es k)
+    pub without : (es : List (T × V)) → map (λ e. e.0) (remove_entry test es) ≡ remove_key test (map (λ e. e.0) es)
+    without [] = refl
+    without (e ∷ es) = by (test e.0) (without es)
       where
-        by : (b : Bool) → keys (remove_entry (eq k) es) ≡ remove_key (eq k) (keys es) → keys (cond b es (e ∷ remove_entry (eq k) es)) ≡ cond b (keys es) (e.0 ∷ remove_key (eq k) (keys es))
+        by : (b : Bool) → keys (remove_entry test es) ≡ remove_key test (keys es) → keys (cond b es (e ∷ remove_entry test es)) ≡ cond b (keys es) (e.0 ∷ remove_key test (keys es))
         by true h = refl
         by false h = ap (λ xs. e.0 ∷ xs) h
 
+  module _ (eq : T → T → Bool) where
     counted : (es : List (T × V)) (k : T) → count_by (eq k) (keys es) ≡ keys_like eq k es
     counted [] k = refl
     counted (e ∷ es) k = omega (arith, counted es k, keys-cons eq k e es, sum_by-cons (λ x. cond (eq k x) 1 0) e.0 (keys es))

@@ -117,7 +117,7 @@ module _ {T V : Type 0} where
   module _ (eq : T → T → Bool) where
     pub cloned-keys : (clones es : List (T × V)) → SetsAll eq [] clones es → IsUnion eq [] (map (λ e. e.0) clones) (map (λ e. e.0) es)
     cloned-keys clones es a q =
-        sym (member eq es q) ∙ ap is_some (a q) ∙ ap (λ ys. is_some (value eq ys q)) (append-nil (reverse clones)) ∙ member eq (reverse clones) q
+        sym (member (eq q) es) ∙ ap is_some (a q) ∙ ap (λ ys. is_some (value eq ys q)) (append-nil (reverse clones)) ∙ member (eq q) (reverse clones)
         ∙ sym (list_any-IsPermutation (eq q) (keys clones) (keys (reverse clones)) (IsPermutation-map (λ (e : T × V). e.0) clones (reverse clones) (IsPermutation-reverse clones)))
 
   -- a key in the place of another

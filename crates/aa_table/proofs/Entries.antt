@@ -45,7 +45,7 @@ module _ {K V : Type 0} (eq : K → K → Bool) (k : K) where
   key-written (None ∷ cs) zero e x at t c = absurd cc
   key-written (Some y ∷ cs) zero e x at t c = grind arith
   key-written (None ∷ cs) (suc s) e x at t c = key-written cs s e x at t c
-  key-written (Some y ∷ cs) (suc s) e x at t c = grind (arith, somewhere eq k cs s e at t, key-written cs s e x at t, keys-cons eq k y (somes cs))
+  key-written (Some y ∷ cs) (suc s) e x at t c = grind (arith, somewhere (eq k) cs s e at t, key-written cs s e x at t, keys-cons eq k y (somes cs))
 
 -- a key that has a value has one after another value was written
 module _ {K V : Type 0} (eq : K → K → Bool) where

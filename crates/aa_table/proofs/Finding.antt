@@ -4,7 +4,7 @@ use Rattle.aa_table.specs.Slots.{tag_of, probe_start}
 use Rattle.aa_table.specs.Places.{Lacks}
 use Rattle.aa_table.specs.declared.slots.Overflow.{Overflow}
 
-module _ {K V : Type 0} (eq : K → K → Bool) (ts : List ℕ) (bs : List Overflow) (cs : List (Option (K × V))) (hash : ℕ) (k : K) where
+module _ {K V : Type 0} (test : K → Bool) (ts : List ℕ) (bs : List Overflow) (cs : List (Option (K × V))) (hash : ℕ) where
   -- a search of `n` steps after the home group does not find the key
   abbrev pub Misses : ℕ → Type 0
-  Misses n = (step : ℕ) → step < n → Lacks eq ts cs (probe_start (length ts) hash (suc step)) (tag_of hash) k
+  Misses n = (step : ℕ) → step < n → Lacks test ts cs (probe_start (length ts) hash (suc step)) (tag_of hash)

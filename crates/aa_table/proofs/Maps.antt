@@ -2,12 +2,13 @@
 use Rattle.std.proofs.Common.{All, Bool, inl, inr, List, None, Option, Some, [], ap, arith, cond, eqb, get_or, length, refl, set, suc, subst, sym, true, zero, ℕ, ◌+◌, ◌<◌, ◌∙◌, ◌∷◌, ◌≡◌, ◌≢◌, ◌≤◌}
 use Rattle.std.specs.Prelude.{IsPermutation}
 use Rattle.std.specs.Cmp.{IsEquivalence}
+use Rattle.std.specs.Map.{lookup}
 use Rattle.std.proofs.lemmas.List.Elements.{All-nil, All-cons, All-head, All-tail}
 use Rattle.std.proofs.lemmas.List.Sorted.{IsPermutation-refl, IsPermutation-trans, IsPermutation-cons, IsPermutation-middle, IsPermutation-sym, All-permutation, length_permutation, sum_by-IsPermutation}
 use Rattle.std.proofs.lemmas.List.Sums.{sum_by-cons}
 use Rattle.std.proofs.lemmas.Bool.{cases_Bool}
 use Rattle.allocator_api2.specs.Places.{somes}
-use Rattle.aa_table.specs.Contents.{value, keys_like, IsMap, Sets}
+use Rattle.aa_table.specs.Contents.{value, keys_like, keys_with, IsMap, Sets}
 
 module _ {X : Type 0} where
   -- two before the others change places
@@ -32,21 +33,29 @@ module _ {X : Type 0} where
   emptied (Some y ∷ cs) (suc s) x e =
       IsPermutation-trans (y ∷ somes cs) (y ∷ x ∷ somes (set cs s None)) (x ∷ y ∷ somes (set cs s None)) (IsPermutation-cons y (somes cs) (x ∷ somes (set cs s None)) (emptied cs s x e)) (swapped y x (somes (set cs s None)))
 
+module _ {K V : Type 0} (test : K → Bool) where
+  pub with-cons : (e : K × V) (es : List (K × V)) → keys_with test (e ∷ es) ≡ cond (test e.0) 1 0 + keys_with test es
+  with-cons e es = sum_by-cons (λ (e : K × V). cond (test e.0) 1 0) e es
+
+  -- where no key passes, none has a value
+  pub with-none : (es : List (K × V)) → keys_with test es ≡ 0 → lookup test es ≡ None
+  with-none [] n = refl
+  with-none (e ∷ es) n = grind (arith, with-none es, with-cons e es)
+
 module _ {K V : Type 0} (eq : K → K → Bool) where
   -- an entry with the key has this value
   abbrev Has : K → Option V → K × V → Type 0
   Has q o e = eq q e.0 ≡ true → Some e.1 ≡ o
 
   pub keys-cons : (q : K) (e : K × V) (es : List (K × V)) → keys_like eq q (e ∷ es) ≡ cond (eq q e.0) 1 0 + keys_like eq q es
-  keys-cons q e es = sum_by-cons (λ (e : K × V). cond (eq q e.0) 1 0) e es
+  keys-cons q e es = with-cons (eq q) e es
 
   none-has : (q : K) (o : Option V) (es : List (K × V)) → keys_like eq q es ≡ 0 → All (Has q o) es
   none-has q o [] n = All-nil (Has q _)
   none-has q o (e ∷ es) n = All-cons (Has q _) e es (λ t. absurd (grind (arith, keys-cons q e es))) (none-has q o es (omega (arith, keys-cons q e es)))
 
   pub value-none : (q : K) (es : List (K × V)) → keys_like eq q es ≡ 0 → value eq es q ≡ None
-  value-none q [] n = refl
-  value-none q (e ∷ es) n = grind (arith, value-none q es, keys-cons q e es)
+  value-none q es n = with-none (eq q) es n
 
   -- each entry with a key that is there once has its value
   once-has : (q : K) (es : List (K × V)) → keys_like eq q es ≤ 1 → All (Has q (value eq es q)) es

@@ -1,16 +1,16 @@
 -- Keys in places, and the index that has their slots.
 use Rattle.std.proofs.Common.{Bool, List, None, Option, Some, [], ap, arith, cond, false, get_or, length, refl, set, suc, true, zero, ℕ, ◌+◌, ◌<◌, ◌∙◌, ◌∷◌, ◌≡◌, ◌≢◌, ◌≤◌, ◌==◌}
 use Rattle.std.specs.Prelude.{count_by, is_some}
-use Rattle.std.specs.Map.{lookup_entry, remove_entry, set_value}
+use Rattle.std.specs.Map.{lookup, lookup_entry, remove_entry, set_value}
 use Rattle.std.specs.Option.{option_map}
 use Rattle.std.proofs.lemmas.Bool.Decides.{nat_tests}
 use Rattle.std.proofs.lemmas.List.Sums.{sum_by-cons}
 use Rattle.allocator_api2.specs.Places.{somes}
-use Rattle.aa_table.specs.Contents.{keys_like, value}
+use Rattle.aa_table.specs.Contents.{keys_with}
 use Rattle.aa_table.specs.Slots.{tag_at, IsIndex}
-use Rattle.aa_table.specs.Places.{AreKeys, AreFree, AreHeld, IsReachable, has_key, hashes_of, key_at}
+use Rattle.aa_table.specs.Places.{AreFree, AreHeld, IsReachable, has_key, hashes_of, key_at}
 use Rattle.aa_table.specs.declared.slots.Overflow.{Overflow}
-use Rattle.aa_table.proofs.Maps.{keys-cons}
+use Rattle.aa_table.proofs.Maps.{with-cons}
 
 module _ {X : Type 0} where
   abbrev pub Held : List ℕ → List (Option X) → Type 0
@@ -26,74 +26,74 @@ module _ {X : Type 0} where
   pub some-free : (ts : List ℕ) (cs : List (Option X)) → Held ts cs → length (somes cs) < length ts → 0 < count_by (λ t. t == 0) ts
   some-free ts cs held few = omega (arith, room ts cs held, few)
 
-module _ {K V : Type 0} (eq : K → K → Bool) (k : K) where
-  -- the entry in a place with the key
+module _ {K V : Type 0} (test : K → Bool) where
+  -- the entry in a place whose key passes
   pub record IsEntry (cs : List (Option (K × V))) (s : ℕ) : Type 0 where
     pub entry : K × V
     pub at : get_or cs s None ≡ Some entry
-    pub here : eq k entry.0 ≡ true
+    pub here : test entry.0 ≡ true
 
-  of_has : (o : Option (K × V)) → has_key eq k o ≡ true → (e : K × V) × (o ≡ Some e) × (eq k e.0 ≡ true)
+  of_has : (o : Option (K × V)) → has_key test o ≡ true → (e : K × V) × (o ≡ Some e) × (test e.0 ≡ true)
   of_has None h = absurd cc
   of_has (Some e) h = (e, refl, h)
 
-  pub entry-at : (cs : List (Option (K × V))) (s : ℕ) → key_at eq k cs s ≡ true → IsEntry cs s
+  pub entry-at : (cs : List (Option (K × V))) (s : ℕ) → key_at test cs s ≡ true → IsEntry cs s
   entry-at cs s h = let e = of_has (get_or cs s None) h in record { entry = e.0; at = e.1; here = e.2 }
 
-  pub nowhere : (cs : List (Option (K × V))) → ((s : ℕ) → key_at eq k cs s ≡ false) → keys_like eq k (somes cs) ≡ 0
+  pub nowhere : (cs : List (Option (K × V))) → ((s : ℕ) → key_at test cs s ≡ false) → keys_with test (somes cs) ≡ 0
   nowhere [] h = refl
   nowhere (None ∷ cs) h = nowhere cs (λ s. h (suc s))
-  nowhere (Some e ∷ cs) h = grind (arith, keys-cons eq k e (somes cs), nowhere cs (λ s. h (suc s)), h zero)
+  nowhere (Some e ∷ cs) h = grind (arith, with-cons test e (somes cs), nowhere cs (λ s. h (suc s)), h zero)
 
-  pub somewhere : (cs : List (Option (K × V))) (s : ℕ) (e : K × V) → get_or cs s None ≡ Some e → eq k e.0 ≡ true → 1 ≤ keys_like eq k (somes cs)
+  pub somewhere : (cs : List (Option (K × V))) (s : ℕ) (e : K × V) → get_or cs s None ≡ Some e → test e.0 ≡ true → 1 ≤ keys_with test (somes cs)
   somewhere [] s e at t = absurd cc
   somewhere (None ∷ cs) zero e at t = absurd cc
-  somewhere (Some x ∷ cs) zero e at t = grind (arith, keys-cons eq k x (somes cs))
+  somewhere (Some x ∷ cs) zero e at t = grind (arith, with-cons test x (somes cs))
   somewhere (None ∷ cs) (suc s) e at t = somewhere cs s e at t
-  somewhere (Some x ∷ cs) (suc s) e at t = omega (arith, somewhere cs s e at t, keys-cons eq k x (somes cs))
+  somewhere (Some x ∷ cs) (suc s) e at t = omega (arith, somewhere cs s e at t, with-cons test x (somes cs))
 
   -- the place with another value for the key
-  pub value-written : (cs : List (Option (K × V))) (s : ℕ) (e : K × V) (v : V) → get_or cs s None ≡ Some e → eq k e.0 ≡ true → keys_like eq k (somes cs) ≤ 1
-      → somes (set cs s (Some (e.0, v))) ≡ set_value (eq k) (somes cs) v
+  pub value-written : (cs : List (Option (K × V))) (s : ℕ) (e : K × V) (v : V) → get_or cs s None ≡ Some e → test e.0 ≡ true → keys_with test (somes cs) ≤ 1
+      → somes (set cs s (Some (e.0, v))) ≡ set_value test (somes cs) v
   value-written [] s e v at t c = absurd cc
   value-written (None ∷ cs) zero e v at t c = absurd cc
   value-written (Some x ∷ cs) zero e v at t c = grind arith
   value-written (None ∷ cs) (suc s) e v at t c = value-written cs s e v at t c
-  value-written (Some x ∷ cs) (suc s) e v at t c = grind (arith, somewhere cs s e at t, value-written cs s e v at t, keys-cons eq k x (somes cs))
+  value-written (Some x ∷ cs) (suc s) e v at t c = grind (arith, somewhere cs s e at t, value-written cs s e v at t, with-cons test x (somes cs))
 
   -- the entry in the place is the one of the key
-  pub entry-read : (cs : List (Option (K × V))) (s : ℕ) (e : K × V) → get_or cs s None ≡ Some e → eq k e.0 ≡ true → keys_like eq k (somes cs) ≤ 1
-      → lookup_entry (eq k) (somes cs) ≡ Some e
+  pub entry-read : (cs : List (Option (K × V))) (s : ℕ) (e : K × V) → get_or cs s None ≡ Some e → test e.0 ≡ true → keys_with test (somes cs) ≤ 1
+      → lookup_entry test (somes cs) ≡ Some e
   entry-read [] s e at t c = absurd cc
   entry-read (None ∷ cs) zero e at t c = absurd cc
   entry-read (Some x ∷ cs) zero e at t c = grind arith
   entry-read (None ∷ cs) (suc s) e at t c = entry-read cs s e at t c
-  entry-read (Some x ∷ cs) (suc s) e at t c = grind (arith, somewhere cs s e at t, entry-read cs s e at t, keys-cons eq k x (somes cs))
+  entry-read (Some x ∷ cs) (suc s) e at t c = grind (arith, somewhere cs s e at t, entry-read cs s e at t, with-cons test x (somes cs))
 
   -- the place without the entry of the key
-  pub entry-emptied : (cs : List (Option (K × V))) (s : ℕ) (e : K × V) → get_or cs s None ≡ Some e → eq k e.0 ≡ true → keys_like eq k (somes cs) ≤ 1
-      → somes (set cs s None) ≡ remove_entry (eq k) (somes cs)
+  pub entry-emptied : (cs : List (Option (K × V))) (s : ℕ) (e : K × V) → get_or cs s None ≡ Some e → test e.0 ≡ true → keys_with test (somes cs) ≤ 1
+      → somes (set cs s None) ≡ remove_entry test (somes cs)
   entry-emptied [] s e at t c = absurd cc
   entry-emptied (None ∷ cs) zero e at t c = absurd cc
   entry-emptied (Some x ∷ cs) zero e at t c = grind arith
   entry-emptied (None ∷ cs) (suc s) e at t c = entry-emptied cs s e at t c
-  entry-emptied (Some x ∷ cs) (suc s) e at t c = grind (arith, somewhere cs s e at t, entry-emptied cs s e at t, keys-cons eq k x (somes cs))
+  entry-emptied (Some x ∷ cs) (suc s) e at t c = grind (arith, somewhere cs s e at t, entry-emptied cs s e at t, with-cons test x (somes cs))
 
   -- a key that is absent has no entry
-  pub no-entry : (es : List (K × V)) → keys_like eq k es ≡ 0 → lookup_entry (eq k) es ≡ None
+  pub no-entry : (es : List (K × V)) → keys_with test es ≡ 0 → lookup_entry test es ≡ None
   no-entry [] n = refl
-  no-entry (e ∷ es) n = grind (arith, no-entry es, keys-cons eq k e es)
+  no-entry (e ∷ es) n = grind (arith, no-entry es, with-cons test e es)
 
-  pub all-others : (es : List (K × V)) → keys_like eq k es ≡ 0 → remove_entry (eq k) es ≡ es
+  pub all-others : (es : List (K × V)) → keys_with test es ≡ 0 → remove_entry test es ≡ es
   all-others [] n = refl
-  all-others (e ∷ es) n = grind (arith, all-others es, keys-cons eq k e es)
+  all-others (e ∷ es) n = grind (arith, all-others es, with-cons test e es)
 
   -- the value of the key is that of its entry
-  pub value-of : (es : List (K × V)) → value eq es k ≡ option_map (λ e. e.1) (lookup_entry (eq k) es)
+  pub value-of : (es : List (K × V)) → lookup test es ≡ option_map (λ e. e.1) (lookup_entry test es)
   value-of [] = refl
-  value-of (e ∷ es) = by (eq k e.0) (value-of es)
+  value-of (e ∷ es) = by (test e.0) (value-of es)
     where
-      by : (b : Bool) → value eq es k ≡ option_map (λ e. e.1) (lookup_entry (eq k) es) → cond b (Some e.1) (value eq es k) ≡ option_map (λ e. e.1) (cond b (Some e) (lookup_entry (eq k) es))
+      by : (b : Bool) → lookup test es ≡ option_map (λ e. e.1) (lookup_entry test es) → cond b (Some e.1) (lookup test es) ≡ option_map (λ e. e.1) (cond b (Some e) (lookup_entry test es))
       by true h = refl
       by false h = h
 
@@ -133,9 +133,8 @@ module _ {K V : Type 0} (h : K → ℕ) where
     pub places : length ts ≤ length cs
     places = omega (arith, index.places, length-hashes cs)
 
-    module _ {eq : K → K → Bool} (keys : AreKeys eq h) where
-      pub reachable : (k : K) (hash : ℕ) → hash ≡ h k → IsReachable eq ts bs cs hash k
-      reachable k hash e s t = let x = entry-at eq k cs s t in rw (e, keys.agree k x.entry.0 x.here) (index.reachable s (h x.entry.0) (hash-here s x.entry x.at))
+    pub reachable : (test : K → Bool) (hash : ℕ) → ((k : K) → test k ≡ true → hash ≡ h k) → IsReachable test ts bs cs hash
+    reachable test hash agree s t = let x = entry-at test cs s t in rw (agree x.entry.0 x.here) (index.reachable s (h x.entry.0) (hash-here s x.entry x.at))
 
   -- no key, no hash
   pub hash-none : (cs : List (Option (K × V))) → ((s : ℕ) → get_or cs s None ≡ None) → (s : ℕ) → get_or (hashes_of h cs) s None ≡ None

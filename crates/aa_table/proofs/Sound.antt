@@ -7,7 +7,7 @@ use Rattle.allocator_api2.specs.Block.{Block}
 use Rattle.allocator_api2.specs.Places.{somes}
 use Rattle.std.specs.Map.{set_value}
 use Rattle.aa_table.specs.Inside.{view_of}
-use Rattle.aa_table.specs.Contents.{TableView, value, keys_like, IsMap, Sets}
+use Rattle.aa_table.specs.Contents.{TableView, value, keys_like, keys_with, IsMap, Sets}
 use Rattle.aa_table.specs.Slots.{IsIndex, IsMemory}
 use Rattle.aa_table.specs.Places.{AreFindable, AreFree, AreHeld, AreKeys, IsIndexed, IsTable, hashes_of, key_at, tags_of}
 use Rattle.aa_table.specs.Walks.{AreGroups}
@@ -60,14 +60,17 @@ module _ {K V A : Type 0} (eq : K → K → Bool) (h : K → ℕ) where
   whole-any cs None x = refl
   whole-any cs (Some i) x = x.slots.groups
 
-module _ {K V A : Type 0} {eq : K → K → Bool} {h : K → ℕ} where
-  find-any : (cs : List (Option (K × V))) (keys : AreKeys eq h) (i : Option (HashIndex A)) → IsIndexed eq h i cs → (k : K) (hash : ℕ) → hash ≡ h k → AreFindable eq i cs hash k
-  find-any cs keys None x k hash e = x
-  find-any cs keys (Some i) x k hash e = record { slots = x.slots; held = held h cs x; reachable = reachable h cs x keys k hash e }
+  find-any : (cs : List (Option (K × V))) (i : Option (HashIndex A)) → IsIndexed eq h i cs → (test : K → Bool) (hash : ℕ) → ((k : K) → test k ≡ true → hash ≡ h k) → AreFindable test i cs hash
+  find-any cs None x test hash agree = x
+  find-any cs (Some i) x test hash agree = record { slots = x.slots; held = held h cs x; reachable = reachable h cs x test hash agree }
 
+module _ {K V A : Type 0} {eq : K → K → Bool} {h : K → ℕ} where
   module _ {b : Block (K × V) A} {index : Option (HashIndex A)} {count capacity : ℕ} (t : IsTable eq h b index count capacity) where
-    pub findable : (k : K) (hash : ℕ) → hash ≡ h k → AreFindable eq index b.places hash k
-    findable = find-any b.places t.keys index t.indexed
+    pub findable-by : (test : K → Bool) (hash : ℕ) → ((k : K) → test k ≡ true → hash ≡ h k) → AreFindable test index b.places hash
+    findable-by = find-any eq h b.places index t.indexed
+
+    pub findable : (k : K) (hash : ℕ) → hash ≡ h k → AreFindable (eq k) index b.places hash
+    findable k hash e = findable-by (eq k) hash (λ x same. e ∙ t.keys.agree k x same)
 
     -- each slot with a tag has a key, and no other
     pub all-held : AreHeld (tags_of index) b.places
@@ -82,20 +85,20 @@ module _ {K V A : Type 0} {eq : K → K → Bool} {h : K → ℕ} where
     pub all-whole : AreGroups (tags_of index)
     all-whole = whole-any eq h b.places index t.indexed
 
-    pub is-here : (k : K) (s : ℕ) (e : K × V) → get_or b.places s None ≡ Some e → key_at eq k b.places s ≡ true → eq k e.0 ≡ true
+    pub is-here : (k : K) (s : ℕ) (e : K × V) → get_or b.places s None ≡ Some e → key_at (eq k) b.places s ≡ true → eq k e.0 ≡ true
     is-here k s e at here = rw at at here
 
     -- a place with the key has its value
-    pub read : (k : K) (s : ℕ) (e : K × V) → get_or b.places s None ≡ Some e → key_at eq k b.places s ≡ true → value eq (somes b.places) k ≡ Some e.1
+    pub read : (k : K) (s : ℕ) (e : K × V) → get_or b.places s None ≡ Some e → key_at (eq k) b.places s ≡ true → value eq (somes b.places) k ≡ Some e.1
     read k s e at here = value-gone eq t.keys.equality k e (somes b.places) (somes (set b.places s None)) (emptied b.places s e at) (is-here k s e at here) t.once
 
-    pub present : (k : K) (s : ℕ) → key_at eq k b.places s ≡ true → is_some (value eq (somes b.places) k) ≡ true
-    present k s h = let x = entry-at eq k b.places s h in ap is_some (read k s x.entry x.at h)
+    pub present : (k : K) (s : ℕ) → key_at (eq k) b.places s ≡ true → is_some (value eq (somes b.places) k) ≡ true
+    present k s h = let x = entry-at (eq k) b.places s h in ap is_some (read k s x.entry x.at h)
 
-    pub absent-keys : (k : K) → ((s : ℕ) → key_at eq k b.places s ≡ false) → keys_like eq k (somes b.places) ≡ 0
-    absent-keys k none = nowhere eq k b.places none
+    pub absent-keys : (k : K) → ((s : ℕ) → key_at (eq k) b.places s ≡ false) → keys_like eq k (somes b.places) ≡ 0
+    absent-keys k none = nowhere (eq k) b.places none
 
-    pub absent : (k : K) → ((s : ℕ) → key_at eq k b.places s ≡ false) → value eq (somes b.places) k ≡ None
+    pub absent : (k : K) → ((s : ℕ) → key_at (eq k) b.places s ≡ false) → value eq (somes b.places) k ≡ None
     absent k none = value-none eq k (somes b.places) (absent-keys k none)
 
     -- an entry of the key in the place
@@ -226,11 +229,11 @@ module _ {K V A : Type 0} (eq : K → K → Bool) (h : K → ℕ) where
         small = small;
       }
 
--- the key has another value
-abbrev pub put : {K V S : Type 0} → (K → K → Bool) → K → V → TableView K V S → TableView K V S
-put eq k v f = record { entries = set_value (eq k) f.entries v; capacity = f.capacity; builder = f.builder }
+-- the key that passes has another value
+abbrev pub put : {K V S : Type 0} → (K → Bool) → V → TableView K V S → TableView K V S
+put test v f = record { entries = set_value test f.entries v; capacity = f.capacity; builder = f.builder }
 
 -- a table with a value written through a mutable borrow
-pub written-filled : {K V S : Type 0} (eq : K → K → Bool) (k : K) (cs : List (Option (K × V))) (s : ℕ) (e : K × V) (v : V) → get_or cs s None ≡ Some e → eq k e.0 ≡ true → keys_like eq k (somes cs) ≤ 1
-    → {b : S} {room : ℕ} {f : TableView K V S} → view_of b cs room ≡ f → view_of b (set cs s (Some (e.0, v))) room ≡ put eq k v f
-written-filled eq k cs s e v at here once {b} {room} seen = ap (λ xs. record { entries = xs; capacity = room; builder = b }) (value-written eq k cs s e v at here once) ∙ ap (put eq k v) seen
+pub written-filled : {K V S : Type 0} (test : K → Bool) (cs : List (Option (K × V))) (s : ℕ) (e : K × V) (v : V) → get_or cs s None ≡ Some e → test e.0 ≡ true → keys_with test (somes cs) ≤ 1
+    → {b : S} {room : ℕ} {f : TableView K V S} → view_of b cs room ≡ f → view_of b (set cs s (Some (e.0, v))) room ≡ put test v f
+written-filled test cs s e v at here once {b} {room} seen = ap (λ xs. record { entries = xs; capacity = room; builder = b }) (value-written test cs s e v at here once) ∙ ap (put test v) seen

@@ -13,6 +13,10 @@ pub record TableView (K V S : Type 0) : Type 0 where
   pub capacity : ℕ
   pub builder : S
 
+-- the number of entries of `es` whose key passes the test
+abbrev pub keys_with : {K V : Type 0} → (K → Bool) → List (K × V) → ℕ
+keys_with {K} {V} test es = count_by (λ (e : K × V). test e.0) es
+
 module _ {K V : Type 0} (eq : K → K → Bool) where
   -- the value of the key `k` in the entries `es`
   abbrev pub value : List (K × V) → K → Option V
@@ -24,11 +28,16 @@ module _ {K V : Type 0} (eq : K → K → Bool) where
 
   -- the number of entries of `es` with a key equal to `k`
   abbrev pub keys_like : K → List (K × V) → ℕ
-  keys_like k es = count_by (λ (e : K × V). eq k e.0) es
+  keys_like k es = keys_with (eq k) es
 
   -- the entries `new` have the value `o` for the key `k`, or none, and those of `es` for all others
   abbrev pub Sets : List (K × V) → K → Option V → List (K × V) → Type 0
   Sets es k o new = (q : K) → value new q ≡ cond (eq q k) o (value es q)
+
+  -- the entries `new` have the value `o` for each key that passes the test, or none, and those of
+  -- `es` for all others
+  abbrev pub SetsBy : (K → Bool) → List (K × V) → Option V → List (K × V) → Type 0
+  SetsBy test es o new = (q : K) → value new q ≡ cond (test q) o (value es q)
 
   -- the entries `new` have the values of `es` after each pair of `xs` was inserted in turn, so that
   -- the last of equal keys sets the value

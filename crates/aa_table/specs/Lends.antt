@@ -13,16 +13,16 @@ use Rattle.aa_table.specs.contracts.table.Table.{the_row}
 abbrev pub OfKeys : Type 0 → Type 0
 OfKeys K = record { eq : K → K → Bool; hash_input : K → HashWrites }
 
--- the final state of the table `t`: `k` has the last value written through `r`, or the table is
--- unchanged if `r` is `None`
+-- the final state of the table `t`: the key that passes the test has the last value written through
+-- `r`, or the table is unchanged if `r` is `None`
 abbrev pub lends_value : (K V S A H : RattleType) (g : OfKeys K.Denot)
     (b : builder.Ghosts S.Denot H.Denot) (w : hasher.Ghosts H.Denot) (a : alloc.Ghosts A.Denot)
-    → MutBor (TableView K.Denot V.Denot S.Denot) → K.Denot → Option (MutBor V.Denot) → Fml
-lends_value K V S A H g b w a t key r =
+    → MutBor (TableView K.Denot V.Denot S.Denot) → (K.Denot → Bool) → Option (MutBor V.Denot) → Fml
+lends_value K V S A H g b w a t test r =
     LendsIf (the_row K V S A H (record { eq = g.eq }) (record { hash_input = g.hash_input }) b w a)
     V t r
     (λ x. record {
-      entries = set_value (g.eq key) t.now.entries x;
+      entries = set_value test t.now.entries x;
       capacity = t.now.capacity;
       builder = t.now.builder;
     }) t.now

@@ -50,41 +50,41 @@ module _ {K V : Type 0} where
   abbrev pub AreHeld : List ℕ → List (Option (K × V)) → Type 0
   AreHeld ts cs = (s : ℕ) → s < length ts → tag_at ts s ≢ 0 → IsFilled cs s
 
-  module _ (eq : K → K → Bool) where
-    -- the place has an entry with a key equal to `k`
-    abbrev pub has_key : K → Option (K × V) → Bool
-    has_key k None = false
-    has_key k (Some e) = eq k e.0
+  module _ (test : K → Bool) where
+    -- the place has an entry whose key passes the test
+    abbrev pub has_key : Option (K × V) → Bool
+    has_key None = false
+    has_key (Some e) = test e.0
 
-    -- place `s` of `cs` has an entry with a key equal to `k`
-    abbrev pub key_at : K → List (Option (K × V)) → ℕ → Bool
-    key_at k cs s = has_key k (get_or cs s None)
+    -- place `s` of `cs` has an entry whose key passes the test
+    abbrev pub key_at : List (Option (K × V)) → ℕ → Bool
+    key_at cs s = has_key (get_or cs s None)
 
-    -- no slot with this tag in the group from `from` on has the key `k`
-    abbrev pub Lacks : List ℕ → List (Option (K × V)) → (from tag : ℕ) → K → Type 0
-    Lacks ts cs from tag k =
-        (s : ℕ) → from ≤ s → s < from + 16 → tag_at ts s ≡ tag → key_at k cs s ≡ false
+    -- no slot with this tag in the group from `from` on has a key that passes the test
+    abbrev pub Lacks : List ℕ → List (Option (K × V)) → (from tag : ℕ) → Type 0
+    Lacks ts cs from tag =
+        (s : ℕ) → from ≤ s → s < from + 16 → tag_at ts s ≡ tag → key_at cs s ≡ false
 
-    -- a search for the hash reaches each slot with the key `k`
-    abbrev pub IsReachable : List ℕ → List Overflow → List (Option (K × V)) → (hash : ℕ) → K
-        → Type 0
-    IsReachable ts bs cs hash k = (s : ℕ) → key_at k cs s ≡ true → ProbeReaches ts bs hash s
+    -- a search for the hash reaches each slot with a key that passes the test
+    abbrev pub IsReachable : List ℕ → List Overflow → List (Option (K × V)) → (hash : ℕ) → Type 0
+    IsReachable ts bs cs hash = (s : ℕ) → key_at cs s ≡ true → ProbeReaches ts bs hash s
 
     -- the index `i` is sound, each slot with a tag has an entry in `cs`, and a search for the hash
-    -- reaches the key `k`
+    -- reaches the keys that pass the test
     pub record IsFindable {A : Type 0} (i : HashIndex A) (cs : List (Option (K × V))) (hash : ℕ)
-        (k : K) : Type 0 where
+        : Type 0 where
       pub slots : IsSlots i.tags.items i.overflows.items
       pub held : AreHeld i.tags.items cs
-      pub reachable : IsReachable i.tags.items i.overflows.items cs hash k
+      pub reachable : IsReachable i.tags.items i.overflows.items cs hash
 
-    -- the index finds the key `k`, or there is no index and all places are empty
+    -- the index finds the keys that pass the test, or there is no index and all places are empty
     abbrev pub AreFindable : {A : Type 0} → Option (HashIndex A) → List (Option (K × V)) →
         (hash : ℕ)
-        → K → Type 0
-    AreFindable None cs hash k = (s : ℕ) → get_or cs s None ≡ None
-    AreFindable (Some i) cs hash k = IsFindable i cs hash k
+        → Type 0
+    AreFindable None cs hash = (s : ℕ) → get_or cs s None ≡ None
+    AreFindable (Some i) cs hash = IsFindable i cs hash
 
+  module _ (eq : K → K → Bool) where
     module _ (h : K → ℕ) where
       -- the index finds each key of the places `cs`, or there is no index and all places are empty
       abbrev pub IsIndexed : {A : Type 0} → Option (HashIndex A) → List (Option (K × V)) → Type 0

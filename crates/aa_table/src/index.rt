@@ -4,6 +4,7 @@ ghost use Rattle.allocator_api2.specs.Places.{IsFilled};
 ghost use Rattle.aa_table.specs.Slots.{tag_at, tag_of, probe_start, reach_of, IsSlots, IsIndex};
 ghost use Rattle.aa_table.specs.Places.{key_at, hashes, tags_of, AreHeld, Lacks, IsReachable, AreFindable};
 
+use crate::lookup::Lookup;
 use crate::slots::{
     GROUP_SIZE, Overflow, clear_all, has_overflow, home, is_free, probe_group, put, reach, release,
     slot_of, slot_past, tag,
@@ -23,39 +24,43 @@ pub struct HashIndex<A: Allocator> {
 /// Returns the hash of a key.
 #[tactic(auto, unfolding(crate::specs::Places::hash_by))]
 #[inline(always)]
-pub fn hash_of<K: Eq + Hash, S: BuildHasher>(builder: &S, key: &K) -> u64
-    ensures { result ≡ hashes S.BuildHasher S.Hasher.Hasher K.hash_input builder.now key.now }
+pub fn hash_of<Q: Hash, S: BuildHasher>(builder: &S, key: &Q) -> u64
+    ensures { result ≡ hashes S.BuildHasher S.Hasher.Hasher Q.hash_input builder.now key.now }
 {
     let mut state = builder.build_hasher();
     key.hash(&mut state);
     state.finish()
 }
 
-// Returns `true` if the key in this slot is equal to `key`.
+// Returns `true` if the key in this slot is the one that `key` looks up.
 #[inline(always)]
-fn is_at<K: Eq, V, A: Allocator>(places: &RawVec<(K, V), A>, slot: usize, key: &K) -> bool
+fn is_at<K: Eq + Hash, V, A: Allocator, Q: Lookup<K>>(
+    places: &RawVec<(K, V), A>,
+    slot: usize,
+    key: Q,
+) -> bool
     requires { IsFilled places.now.places slot }
-    ensures { result ≡ key_at K.eq key.now places.now.places slot }
+    ensures { result ≡ key_at (Q.matches key) places.now.places slot }
 {
-    *key == places.place(slot).0
+    key.matches(&places.place(slot).0)
 }
 
 // Returns the slot of the key in the group from `from` on, or `None` if no slot with this tag has
 // it.
 #[inline]
-fn slot_with<K: Eq, V, A: Allocator>(
+fn slot_with<K: Eq + Hash, V, A: Allocator, Q: Lookup<K>>(
     tags: &[u8],
     from: usize,
     tag: u8,
     places: &RawVec<(K, V), A>,
-    key: &K,
+    key: Q,
 ) -> Option<usize>
     requires room { from + 16 ≤ length tags.now }
     requires held { AreHeld tags.now places.now.places }
     requires tag { tag ≢ 0 }
     ensures some { IfSome result (λ s. (s < length tags.now)
-        × (key_at K.eq key.now places.now.places s ≡ true)) }
-    ensures none { IfNone result (Lacks K.eq tags.now places.now.places from tag key.now) }
+        × (key_at (Q.matches key) places.now.places s ≡ true)) }
+    ensures none { IfNone result (Lacks (Q.matches key) tags.now places.now.places from tag) }
 {
     let mut past = 0;
     'each: while past < GROUP_SIZE {
@@ -73,20 +78,20 @@ fn slot_with<K: Eq, V, A: Allocator>(
 // Returns the slot of a key outside its home group, searching group by group.
 #[cold]
 #[inline(never)]
-fn find_overflow<K: Eq, V, A: Allocator>(
+fn find_overflow<K: Eq + Hash, V, A: Allocator, Q: Lookup<K>>(
     tags: &[u8],
     overflows: &[Overflow],
     places: &RawVec<(K, V), A>,
     hash: u64,
-    key: &K,
+    key: Q,
 ) -> Option<usize>
     requires slots { IsSlots tags.now overflows.now }
     requires held { AreHeld tags.now places.now.places }
     ensures some { IfSome result (λ s. (s < length tags.now)
-        × (key_at K.eq key.now places.now.places s ≡ true)) }
+        × (key_at (Q.matches key) places.now.places s ≡ true)) }
     ensures none { IfNone result ((step : ℕ) → step < reach_of overflows.now (length tags.now) hash
-        → Lacks K.eq tags.now places.now.places
-        (probe_start (length tags.now) hash (suc step)) (tag_of hash) key.now) }
+        → Lacks (Q.matches key) tags.now places.now.places
+        (probe_start (length tags.now) hash (suc step)) (tag_of hash)) }
 {
     let tag = tag(hash);
     let from = home(hash, tags.len());
@@ -103,19 +108,19 @@ fn find_overflow<K: Eq, V, A: Allocator>(
 // Like `find`, but never inlined: compares all slots with the tag, in the home group and after it.
 #[cold]
 #[inline(never)]
-fn find_slow<K: Eq, V, A: Allocator>(
+fn find_slow<K: Eq + Hash, V, A: Allocator, Q: Lookup<K>>(
     tags: &[u8],
     overflows: &[Overflow],
     places: &RawVec<(K, V), A>,
     hash: u64,
-    key: &K,
+    key: Q,
 ) -> Option<usize>
     requires slots { IsSlots tags.now overflows.now }
     requires held { AreHeld tags.now places.now.places }
-    requires reachable { IsReachable K.eq tags.now overflows.now places.now.places hash key.now }
+    requires reachable { IsReachable (Q.matches key) tags.now overflows.now places.now.places hash }
     ensures found { IfSome result (λ s. (s < length tags.now)
-        × (key_at K.eq key.now places.now.places s ≡ true)) }
-    ensures absent { IfNone result ((s : ℕ) → key_at K.eq key.now places.now.places s ≡ false) }
+        × (key_at (Q.matches key) places.now.places s ≡ true)) }
+    ensures absent { IfNone result ((s : ℕ) → key_at (Q.matches key) places.now.places s ≡ false) }
 {
     let from = home(hash, tags.len());
     if let Some(slot) = slot_with(tags, from, tag(hash), places, key) {
@@ -133,19 +138,19 @@ fn find_slow<K: Eq, V, A: Allocator>(
 /// Compares `key` with the first key of the home group that has its tag. The search continues only
 /// if that is another key, or if keys overflowed the home group.
 #[inline(always)]
-pub fn find<K: Eq, V, A: Allocator>(
+pub fn find<K: Eq + Hash, V, A: Allocator, Q: Lookup<K>>(
     tags: &[u8],
     overflows: &[Overflow],
     places: &RawVec<(K, V), A>,
     hash: u64,
-    key: &K,
+    key: Q,
 ) -> Option<usize>
     requires slots { IsSlots tags.now overflows.now }
     requires held { AreHeld tags.now places.now.places }
-    requires reachable { IsReachable K.eq tags.now overflows.now places.now.places hash key.now }
+    requires reachable { IsReachable (Q.matches key) tags.now overflows.now places.now.places hash }
     ensures found { IfSome result (λ s. (s < length tags.now)
-        × (key_at K.eq key.now places.now.places s ≡ true)) }
-    ensures absent { IfNone result ((s : ℕ) → key_at K.eq key.now places.now.places s ≡ false) }
+        × (key_at (Q.matches key) places.now.places s ≡ true)) }
+    ensures absent { IfNone result ((s : ℕ) → key_at (Q.matches key) places.now.places s ≡ false) }
 {
     let from = home(hash, tags.len());
     match slot_of(tags, from, tag(hash)) {
@@ -166,16 +171,16 @@ pub fn find<K: Eq, V, A: Allocator>(
 
 /// Returns the slot of a key with this hash, or `None` if the key is absent or there is no index.
 #[inline(always)]
-pub fn find_in<K: Eq, V, A: Allocator>(
+pub fn find_in<K: Eq + Hash, V, A: Allocator, Q: Lookup<K>>(
     index: &Option<HashIndex<A>>,
     places: &RawVec<(K, V), A>,
     hash: u64,
-    key: &K,
+    key: Q,
 ) -> Option<usize>
-    requires { AreFindable K.eq index.now places.now.places hash key.now }
+    requires { AreFindable (Q.matches key) index.now places.now.places hash }
     ensures within { IfSome result (λ s. s < length (tags_of index.now)) }
-    ensures found { IfSome result (λ s. key_at K.eq key.now places.now.places s ≡ true) }
-    ensures absent { IfNone result ((s : ℕ) → key_at K.eq key.now places.now.places s ≡ false) }
+    ensures found { IfSome result (λ s. key_at (Q.matches key) places.now.places s ≡ true) }
+    ensures absent { IfNone result ((s : ℕ) → key_at (Q.matches key) places.now.places s ≡ false) }
 {
     match index {
         Some(made) => find(
@@ -189,35 +194,35 @@ pub fn find_in<K: Eq, V, A: Allocator>(
     }
 }
 
-// Returns `true` only if the slot has a key equal to `key`.
+// Returns `true` only if the slot has the key that `key` looks up.
 #[inline(always)]
-fn has_at<K: Eq, V, A: Allocator>(
+fn has_at<K: Eq + Hash, V, A: Allocator, Q: Lookup<K>>(
     tags: &[u8],
     places: &RawVec<(K, V), A>,
     slot: usize,
-    key: &K,
+    key: Q,
 ) -> bool
     requires { AreHeld tags.now places.now.places }
     ensures { IsTrue result → (slot < length tags.now)
-        × (key_at K.eq key.now places.now.places slot ≡ true) }
+        × (key_at (Q.matches key) places.now.places slot ≡ true) }
 {
     slot < tags.len() && !is_free(tags, slot) && is_at(places, slot, key)
 }
 
 /// Like `find_in`, but hashes the key and searches for it only if it is not in the slot `hint`.
 #[inline]
-pub fn find_near<K: Eq + Hash, V, S: BuildHasher, A: Allocator>(
+pub fn find_near<K: Eq + Hash, V, S: BuildHasher, A: Allocator, Q: Lookup<K>>(
     builder: &S,
     index: &Option<HashIndex<A>>,
     places: &RawVec<(K, V), A>,
     hint: usize,
-    key: &K,
+    key: Q,
 ) -> Option<usize>
-    requires { AreFindable K.eq index.now places.now.places
-        (hashes S.BuildHasher S.Hasher.Hasher K.hash_input builder.now key.now) key.now }
+    requires { AreFindable (Q.matches key) index.now places.now.places
+        (hashes S.BuildHasher S.Hasher.Hasher Q.hash_input builder.now key) }
     ensures within { IfSome result (λ s. s < length (tags_of index.now)) }
-    ensures found { IfSome result (λ s. key_at K.eq key.now places.now.places s ≡ true) }
-    ensures absent { IfNone result ((s : ℕ) → key_at K.eq key.now places.now.places s ≡ false) }
+    ensures found { IfSome result (λ s. key_at (Q.matches key) places.now.places s ≡ true) }
+    ensures absent { IfNone result ((s : ℕ) → key_at (Q.matches key) places.now.places s ≡ false) }
 {
     match index {
         Some(made) => {
@@ -225,7 +230,7 @@ pub fn find_near<K: Eq + Hash, V, S: BuildHasher, A: Allocator>(
             if has_at(tags, places, hint, key) {
                 return Some(hint);
             }
-            let hash = hash_of(builder, key);
+            let hash = hash_of(builder, &key);
             find(tags, made.overflows.as_slice(), places, hash, key)
         }
         None => None,

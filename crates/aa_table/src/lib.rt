@@ -12,6 +12,7 @@ pub mod into_parts;
 pub mod iter;
 pub mod iter_mut;
 mod keeper;
+pub mod lookup;
 pub mod set;
 mod slots;
 pub mod table;

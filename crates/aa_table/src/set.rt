@@ -1,7 +1,7 @@
 //! A hash set over any allocator that can be cloned: a table whose keys have no values.
 ghost use Rattle.std.specs.Prelude.{◌≡◌, ◌-◌, ◌+◌, ◌<◌, ◌≤◌, [], ◌∷◌, IfOk, IfErr, OnOk, OnErr, IsOk, IsSome, IsTrue, Bool, None, option_copied, true, false, not, min, max, filter, find, length, ◌==◌, is_some, IsPermutation};
 ghost use Rattle.std.specs.Fn.{CalledAt};
-ghost use Rattle.std.specs.List.{list_all};
+ghost use Rattle.std.specs.List.{list_all, list_any};
 ghost use Rattle.std.specs.List.Retain.{IsFiltered};
 ghost use Rattle.std.specs.Set.{is_member, remove_key, swap_key};
 ghost use Rattle.allocator_api2.specs.declared.collections.TryReserveErrorKind.TheVariants.{AllocError, CapacityOverflow};
@@ -12,6 +12,7 @@ ghost use Rattle.aa_table.specs.SetContents.{set_capacity_for, AreDistinct, SetH
 use crate::into_parts::IntoKeys;
 use crate::iter::Keys;
 use crate::keeper::OnKey;
+use crate::lookup::Lookup;
 use crate::table::Table;
 use allocator_api2::collections::{Refused, TryReserveError};
 use std::alloc::{Allocator, Global};
@@ -121,19 +122,23 @@ impl<T: Eq + Hash + Drop, S: BuildHasher, A: Allocator + Clone> Set<T, S, A> {
     }
 
     /// Returns `true` if the set has an element equal to `value`.
+    ///
+    /// `value` is a `&T`, or a borrowed form of the element, as a `&str` for a text (`Lookup`).
     #[tactic(auto, using(crate::proofs::Elements::elements))]
     #[inline]
-    pub fn contains(&self, value: &T) -> bool
-        ensures { result ≡ is_member T.eq self.now.elements value.now }
+    pub fn contains<Q: Lookup<T>>(&self, value: Q) -> bool
+        ensures { result ≡ list_any (Q.matches value) self.now.elements }
     {
         self.table.contains_key(value)
     }
 
     /// Returns a reference to the element equal to `value`, or `None` if there is none.
+    ///
+    /// `value` may be a borrowed form of the element, as for `contains`.
     #[tactic(auto, using(crate::proofs::Elements::elements))]
     #[inline]
-    pub fn get(&self, value: &T) -> Option<&T>
-        ensures { option_copied result ≡ find (T.eq value.now) self.now.elements }
+    pub fn get<Q: Lookup<T>>(&self, value: Q) -> Option<&T>
+        ensures { option_copied result ≡ find (Q.matches value) self.now.elements }
     {
         match self.table.get_key_value(value) {
             Some((element, _)) => Some(element),
@@ -336,12 +341,13 @@ impl<T: Eq + Hash + Drop, S: BuildHasher, A: Allocator + Clone> Set<T, S, A> {
 
     /// Removes the element equal to `value`, and returns `true` if there was one.
     ///
+    /// `value` may be a borrowed form of the element, as for `contains`.
     /// Preserves the order of the others. Does not allocate, and does not change the capacity.
     #[tactic(auto, using(crate::proofs::Elements::elements))]
     #[inline]
-    pub fn remove(&mut self, value: &T) -> bool
-        ensures found { result ≡ is_member T.eq self.old.elements value.now }
-        ensures removed { self.new.elements ≡ remove_key (T.eq value.now) self.old.elements }
+    pub fn remove<Q: Lookup<T>>(&mut self, value: Q) -> bool
+        ensures found { result ≡ list_any (Q.matches value) self.old.elements }
+        ensures removed { self.new.elements ≡ remove_key (Q.matches value) self.old.elements }
         ensures capacity { self.new.capacity ≡ self.old.capacity }
         ensures builder { self.new.builder ≡ self.old.builder }
     {
@@ -350,12 +356,13 @@ impl<T: Eq + Hash + Drop, S: BuildHasher, A: Allocator + Clone> Set<T, S, A> {
 
     /// Removes the element equal to `value` and returns it, or returns `None` if there is none.
     ///
+    /// `value` may be a borrowed form of the element, as for `contains`.
     /// Preserves the order of the others. Does not allocate, and does not change the capacity.
     #[tactic(auto, using(crate::proofs::Elements::elements))]
     #[inline]
-    pub fn take(&mut self, value: &T) -> Option<T>
-        ensures found { result ≡ find (T.eq value.now) self.old.elements }
-        ensures removed { self.new.elements ≡ remove_key (T.eq value.now) self.old.elements }
+    pub fn take<Q: Lookup<T>>(&mut self, value: Q) -> Option<T>
+        ensures found { result ≡ find (Q.matches value) self.old.elements }
+        ensures removed { self.new.elements ≡ remove_key (Q.matches value) self.old.elements }
         ensures capacity { self.new.capacity ≡ self.old.capacity }
         ensures builder { self.new.builder ≡ self.old.builder }
     {

@@ -1,17 +1,18 @@
 //! The hash table: a finite map from keys to values, by the equality of the keys.
 ghost use Rattle.std.specs.Prelude.{◌≡◌, ◌+◌, ◌-◌, ◌<◌, ◌≤◌, [], ◌∷◌, None, Some, IfOk, IfErr, OnOk, OnErr, IsOk, IsSome, option_copied, option_map, is_some, map, max, min, if◌then◌else◌, true, false, length, ◌==◌, IsPermutation};
 ghost use Rattle.std.specs.Borrow.{sem};
-ghost use Rattle.std.specs.Map.{remove_entry, set_value};
+ghost use Rattle.std.specs.Map.{lookup, lookup_entry, remove_entry, set_value};
 ghost use Rattle.std.specs.Option.{option_copied_mut};
 ghost use Rattle.allocator_api2.specs.declared.collections.TryReserveErrorKind.TheVariants.{AllocError, CapacityOverflow};
 ghost use Rattle.aa_table.specs.Full.{LacksRoom};
-ghost use Rattle.aa_table.specs.Contents.{value, entry_of, keys_like, Sets, IsMap, HasRoom, capacity_for, fresh_capacity, shrunk_capacity, max_keys};
+ghost use Rattle.aa_table.specs.Contents.{value, keys_like, Sets, SetsBy, IsMap, HasRoom, capacity_for, fresh_capacity, shrunk_capacity, max_keys};
 ghost use Rattle.aa_table.specs.Places.{hashes};
 
 use crate::growth::{MIN_CAPACITY, drop_between, fit, fresh_capacity, resize};
 use crate::index::{HashIndex, find_in, free_all, hash_of, put_new, tags_in, take_out};
 use crate::into_parts::{IntoKeys, IntoValues};
 use crate::iter::{IntoIter, Iter, Keys, Values};
+use crate::lookup::Lookup;
 use allocator_api2::collections::{Refused, TryReserveError, TryReserveErrorKind};
 use allocator_api2::raw_vec::RawVec;
 use std::alloc::{Allocator, Global};
@@ -210,11 +211,13 @@ impl<K: Eq + Hash + Drop, V: Drop, S: BuildHasher, A: Allocator + Clone> Table<K
     }
 
     /// Returns a reference to the value of `key`, or `None` if the key is absent.
+    ///
+    /// `key` is a `&K`, or a borrowed form of the key, as a `&str` for a text (`Lookup`).
     #[inline]
-    pub fn get(&self, key: &K) -> Option<&V>
-        ensures { option_copied result ≡ value K.eq self.now.entries key.now }
+    pub fn get<Q: Lookup<K>>(&self, key: Q) -> Option<&V>
+        ensures { option_copied result ≡ lookup (Q.matches key) self.now.entries }
     {
-        let hash = hash_of(&self.builder, key);
+        let hash = hash_of(&self.builder, &key);
         match find_in(&self.index, &self.places, hash, key) {
             Some(slot) => Some(&self.places.place(slot).1),
             None => None,
@@ -223,13 +226,13 @@ impl<K: Eq + Hash + Drop, V: Drop, S: BuildHasher, A: Allocator + Clone> Table<K
 
     /// Returns references to the stored key and the value of `key`, or `None` if the key is absent.
     ///
-    /// The stored key is equal to `key`.
+    /// `key` may be a borrowed form of the key, as for `get`. The stored key matches it.
     #[inline]
-    pub fn get_key_value(&self, key: &K) -> Option<(&K, &V)>
+    pub fn get_key_value<Q: Lookup<K>>(&self, key: Q) -> Option<(&K, &V)>
         ensures { option_map (λ e. (e.0.now, e.1.now)) result
-            ≡ entry_of K.eq self.now.entries key.now }
+            ≡ lookup_entry (Q.matches key) self.now.entries }
     {
-        let hash = hash_of(&self.builder, key);
+        let hash = hash_of(&self.builder, &key);
         match find_in(&self.index, &self.places, hash, key) {
             Some(slot) => {
                 let entry = self.places.place(slot);
@@ -240,23 +243,25 @@ impl<K: Eq + Hash + Drop, V: Drop, S: BuildHasher, A: Allocator + Clone> Table<K
     }
 
     /// Returns `true` if the table has a value for `key`.
+    ///
+    /// `key` may be a borrowed form of the key, as for `get`.
     #[inline]
-    pub fn contains_key(&self, key: &K) -> bool
-        ensures { result ≡ is_some (value K.eq self.now.entries key.now) }
+    pub fn contains_key<Q: Lookup<K>>(&self, key: Q) -> bool
+        ensures { result ≡ is_some (lookup (Q.matches key) self.now.entries) }
     {
         self.get(key).is_some()
     }
 
     /// Returns a mutable reference to the value of `key`, or `None` if the key is absent.
     ///
-    /// Preserves the keys and their order.
+    /// `key` may be a borrowed form of the key, as for `get`. Preserves the keys and their order.
     #[inline]
-    pub fn get_mut(&mut self, key: &K) -> Option<&mut V>
+    pub fn get_mut<Q: Lookup<K>>(&mut self, key: Q) -> Option<&mut V>
         ensures* writes_back { sem 𝓛 (lends_value K.row V.row S.row A.row S.Hasher.row
-            K.Hash S.BuildHasher S.Hasher.Hasher A.Allocator self.entry key.now result) }
-        ensures value { option_copied_mut result ≡ value K.eq self.old.entries key.now }
+            K.Hash S.BuildHasher S.Hasher.Hasher A.Allocator self.entry (Q.matches key) result) }
+        ensures value { option_copied_mut result ≡ lookup (Q.matches key) self.old.entries }
     {
-        let hash = hash_of(&self.builder, key);
+        let hash = hash_of(&self.builder, &key);
         match find_in(&self.index, &self.places, hash, key) {
             Some(slot) => Some(&mut self.places.place_mut(slot).1),
             None => None,
@@ -466,14 +471,16 @@ impl<K: Eq + Hash + Drop, V: Drop, S: BuildHasher, A: Allocator + Clone> Table<K
 
     /// Removes `key` and returns its value, or `None` if the key is absent.
     ///
+    /// `key` may be a borrowed form of the key, as for `get`.
     /// Preserves the order of the other keys. Does not allocate, and does not change the capacity:
     /// another key can then be inserted.
     #[inline]
-    pub fn remove(&mut self, key: &K) -> Option<V>
+    pub fn remove<Q: Lookup<K>>(&mut self, key: Q) -> Option<V>
         // It returns the value of the key, which then has none.
-        ensures old { result ≡ value K.eq self.old.entries key.now }
-        ensures removed { Sets K.eq self.old.entries key.now None self.new.entries }
-        ensures others { self.new.entries ≡ remove_entry (K.eq key.now) self.old.entries }
+        ensures old { result ≡ lookup (Q.matches key) self.old.entries }
+        ensures removed { SetsBy K.eq (Q.matches key) self.old.entries None self.new.entries }
+        ensures taken { lookup (Q.matches key) self.new.entries ≡ None }
+        ensures others { self.new.entries ≡ remove_entry (Q.matches key) self.old.entries }
 
         // If the key was present, there is one key less, and capacity for one more.
         ensures one_less { IsSome result
@@ -493,14 +500,16 @@ impl<K: Eq + Hash + Drop, V: Drop, S: BuildHasher, A: Allocator + Clone> Table<K
 
     /// Removes `key` and returns the stored key and its value, or `None` if the key is absent.
     ///
-    /// The stored key is equal to `key`. Preserves the order of the other keys. Does not allocate,
-    /// and does not change the capacity: another key can then be inserted.
+    /// `key` may be a borrowed form of the key, as for `get`. The stored key matches it.
+    /// Preserves the order of the other keys. Does not allocate, and does not change the capacity:
+    /// another key can then be inserted.
     #[inline]
-    pub fn remove_entry(&mut self, key: &K) -> Option<(K, V)>
+    pub fn remove_entry<Q: Lookup<K>>(&mut self, key: Q) -> Option<(K, V)>
         // It returns the entry of the key, which then has none.
-        ensures old { result ≡ entry_of K.eq self.old.entries key.now }
-        ensures removed { Sets K.eq self.old.entries key.now None self.new.entries }
-        ensures others { self.new.entries ≡ remove_entry (K.eq key.now) self.old.entries }
+        ensures old { result ≡ lookup_entry (Q.matches key) self.old.entries }
+        ensures removed { SetsBy K.eq (Q.matches key) self.old.entries None self.new.entries }
+        ensures taken { lookup (Q.matches key) self.new.entries ≡ None }
+        ensures others { self.new.entries ≡ remove_entry (Q.matches key) self.old.entries }
 
         // If the key was present, there is one key less, and capacity for one more.
         ensures one_less { IsSome result
@@ -512,7 +521,7 @@ impl<K: Eq + Hash + Drop, V: Drop, S: BuildHasher, A: Allocator + Clone> Table<K
         ensures builder { self.new.builder ≡ self.old.builder }
         ensures absent { result ≡ None → self.new ≡ self.old }
     {
-        let hash = hash_of(&self.builder, key);
+        let hash = hash_of(&self.builder, &key);
         let Some(slot) = find_in(&self.index, &self.places, hash, key) else {
             return None;
         };
@@ -660,16 +669,16 @@ impl<K: Eq + Hash + Drop, V: Drop, S: BuildHasher + Drop, A: Allocator> Table<K,
     }
 }
 
-impl<'k, K: Eq + Hash + Drop, V: Drop, S: BuildHasher, A: Allocator + Clone> Index<&'k K>
+impl<K: Eq + Hash + Drop, V: Drop, S: BuildHasher, A: Allocator + Clone, Q: Lookup<K>> Index<Q>
     for Table<K, V, S, A> {
     type Output = V;
 
-    ghost can_index = { λ t k. IsSome (value K.eq t.entries k.now) };
+    ghost can_index = { λ t k. IsSome (lookup (Q.matches k) t.entries) };
 
-    ghost index_gives = { λ t k v. value K.eq t.entries k.now ≡ Some v };
+    ghost index_gives = { λ t k v. lookup (Q.matches k) t.entries ≡ Some v };
 
     /// Returns a reference to the value of `key`, which must be present.
-    fn index(&self, key: &'k K) -> &V {
+    fn index(&self, key: Q) -> &V {
         match self.get(key) {
             Some(value) => value,
             None => unreachable!(),

@@ -2,6 +2,8 @@
 #![tactic(auto)]
 
 #[cfg(test)]
+mod lookup;
+#[cfg(test)]
 mod memory;
 #[cfg(test)]
 mod set;

@@ -249,6 +249,27 @@ fn texts_are_keys_by_any_hasher(rt: HostRuntime) {
     }
 }
 
+// More keys of one hash than the home group has slots are found by a borrowed form, and no others.
+#[test]
+fn texts_of_one_hash_are_looked_up_by_others(rt: HostRuntime) {
+    let heap = rt.alloc();
+    let words = [
+        "a", "b", "c", "d", "e", "f", "g", "h", "i", "j", "k", "l", "m", "n", "o", "p", "q", "r",
+    ];
+    let mut table: Texts = Table::with_hasher_in(Same, heap);
+    for word in &words {
+        assert!(rt; put(&mut table, key(heap, word), 1).is_none());
+    }
+    for word in &words {
+        assert!(rt;
+            table.get(*word) == Some(&1) && table.remove(*word) == Some(1),
+            "{word}"
+        );
+        assert!(rt; table.get(*word).is_none() && table.get("s").is_none());
+    }
+    assert!(rt; table.is_empty());
+}
+
 // The capacity of a vector of what comes, by each iterator that borrows.
 fn collected(table: &Small<'_>, heap: &Faulty<Global>, way: u32) -> Option<usize> {
     match way {

@@ -5,7 +5,7 @@ use Rattle.aa_table.proofs.index.slot_with.Given as goal
 
 -- none of the slots passed has the key
 abbrev pub invariant-each : goal.invariant-each
-invariant-each g l = (s : ℕ) → l.from ≤ s → s < l.from + l.past → tag_at l.tags s ≡ l.tag → key_at g.K.PartialEq.eq l.key l.places.places s ≡ false
+invariant-each g l = (s : ℕ) → l.from ≤ s → s < l.from + l.past → tag_at l.tags s ≡ l.tag → key_at (g.Q.Lookup.matches l.key) l.places.places s ≡ false
 
 abbrev pub decreases-each : goal.decreases-each
 decreases-each g l = 16 - l.past

@@ -8,7 +8,7 @@ use Rattle.aa_table.proofs.set.Set.insert.Goals as goal
 pub returns-in-Err-clause-absent : goal.returns-in-Err-clause-absent
 returns-in-Err-clause-absent g c =
     sym (ap (λ (s : SetView _ _). is_member g.T.PartialEq.eq s.elements c.args.value) c.self.view_is)
-    ∙ sym (member g.T.PartialEq.eq c.self.inside.table.entries c.args.value) ∙ ap is_some c.in-Err.ensures.new
+    ∙ sym (member (g.T.PartialEq.eq c.args.value) c.self.inside.table.entries) ∙ ap is_some c.in-Err.ensures.new
 
 pub returns-clause-added : goal.returns-clause-added
 returns-clause-added g c = λ t.

@@ -22,19 +22,19 @@ returns-in-Ok-clause-replaced g c = λ _.
 pub returns-in-Err-insert-clause-absent : goal.returns-in-Err-insert-clause-absent
 returns-in-Err-insert-clause-absent g c =
     let eq = g.T.PartialEq.eq in
-    sym (found eq c.self.inside.table.entries c.args.value ∙ ap (λ (s : SetView _ _). find (eq c.args.value) s.elements) c.self.view_is)
+    sym (found (eq c.args.value) c.self.inside.table.entries ∙ ap (λ (s : SetView _ _). find (eq c.args.value) s.elements) c.self.view_is)
     ∙ ap (option_map (λ (e : _ × _). e.0)) c.in-Err.ensures.absent
 
 pub returns-clause-old : goal.returns-clause-old
 returns-clause-old g c =
     let eq = g.T.PartialEq.eq in
     sym (ap (option_map (λ (e : _ × _). e.0)) c.in-Err.ensures.absent)
-    ∙ (found eq c.self.inside.table.entries c.args.value ∙ ap (λ (s : SetView _ _). find (eq c.args.value) s.elements) c.self.view_is)
+    ∙ (found (eq c.args.value) c.self.inside.table.entries ∙ ap (λ (s : SetView _ _). find (eq c.args.value) s.elements) c.self.view_is)
 
 pub returns-clause-added : goal.returns-clause-added
 returns-clause-added g c = λ _.
     let eq = g.T.PartialEq.eq in let k = c.in-Err in let mid = c.replace_key.new.self in
-    let none = value-of eq c.args.value c.self.inside.table.entries ∙ ap (option_map (λ (e : _ × _). e.1)) k.ensures.absent in
+    let none = value-of (eq c.args.value) c.self.inside.table.entries ∙ ap (option_map (λ (e : _ × _). e.1)) k.ensures.absent in
     let new = ap is_some (c.in_default.ensures.old ∙ (λ i. value eq (k.ensures.unchanged i).entries (k.ensures.returned i)) ∙ none) in
     let before = ap (λ (t : TableView _ _ _). map (λ (e : _ × _). e.0) t.entries) k.ensures.unchanged ∙ ap (λ (s : SetView _ _). s.elements) c.self.view_is in
     subst (λ xs. IsPermutation xs (map (λ (e : _ × _). e.0) c.insert.new.self.entries)) (λ i. k.ensures.returned i ∷ before i)
@@ -43,7 +43,7 @@ returns-clause-added g c = λ _.
 pub returns-clause-made : goal.returns-clause-made
 returns-clause-made g c = λ _.
     let eq = g.T.PartialEq.eq in let k = c.in-Err in
-    let none = value-of eq c.args.value c.self.inside.table.entries ∙ ap (option_map (λ (e : _ × _). e.1)) k.ensures.absent in
+    let none = value-of (eq c.args.value) c.self.inside.table.entries ∙ ap (option_map (λ (e : _ × _). e.1)) k.ensures.absent in
     let new = ap is_some (c.in_default.ensures.old ∙ (λ i. value eq (k.ensures.unchanged i).entries (k.ensures.returned i)) ∙ none) in
     c.in_default.ensures.made new ∙ ap (λ (t : TableView _ _ _). capacity_for t 1) k.ensures.unchanged
     ∙ ap (λ n. reserved_capacity c.self.inside.table.capacity n 1) (sym (length-map c.self.inside.table.entries (λ (e : _ × _). e.0)))

@@ -1,21 +1,26 @@
 use Rattle.std.proofs.Common.{ap, sym, ◌∙◌}
+use Rattle.std.specs.Map.{lookup_entry}
 use Rattle.allocator_api2.specs.Places.{somes}
-use Rattle.aa_table.specs.Contents.{entry_of, TableView}
-use Rattle.aa_table.proofs.Placed.{entry-read, no-entry}
-use Rattle.aa_table.proofs.Sound.{absent-keys, findable, is-here}
+use Rattle.aa_table.specs.Contents.{TableView}
+use Rattle.aa_table.specs.Places.{hash_by}
+use Rattle.aa_table.proofs.Lookups.{entry-found, no-keys}
+use Rattle.aa_table.proofs.Placed.{no-entry}
+use Rattle.aa_table.proofs.Sound.{findable-by}
 use Rattle.aa_table.proofs.table.Table.get_key_value.Goals as goal
 
 pub find_in-requires : goal.find_in-requires
-find_in-requires g c = findable c.self.invariant c.args.key.now c.hash_of-hash.result c.hash_of-hash.ensures
+find_in-requires g c =
+    findable-by c.self.invariant (g.Q.Lookup.matches c.args.key) c.hash_of-hash.result
+    (λ k h. c.hash_of-hash.ensures ∙ ap (hash_by g.S.BuildHasher g.S.Hasher.Hasher c.self.inside.builder) (g.met.Q.Lookup.like_hash c.args.key k h))
 
 pub returns-in-Some : goal.returns-in-Some
 returns-in-Some g c =
-    let t = c.self.invariant in let e = c.place-entry.result.now in let at = c.place-entry.ensures in
-    let here = is-here t c.args.key.now c.in-Some.slot e at c.in-Some.ensures.found in
-    sym (entry-read g.K.PartialEq.eq c.args.key.now c.self.inside.places.places c.in-Some.slot e at here (t.once c.args.key.now))
-    ∙ ap (λ (f : TableView _ _ _). entry_of g.K.PartialEq.eq f.entries c.args.key.now) c.self.view_is
+    let test = g.Q.Lookup.matches c.args.key in
+    sym (entry-found c.self.invariant test (g.met.Q.Lookup.like_eq c.args.key) c.in-Some.slot c.place-entry.result.now c.place-entry.ensures c.in-Some.ensures.found)
+    ∙ ap (λ (f : TableView _ _ _). lookup_entry test f.entries) c.self.view_is
 
 pub returns-in-None : goal.returns-in-None
 returns-in-None g c =
-    sym (no-entry g.K.PartialEq.eq c.args.key.now (somes c.self.inside.places.places) (absent-keys c.self.invariant c.args.key.now c.in-None.ensures.absent))
-    ∙ ap (λ (f : TableView _ _ _). entry_of g.K.PartialEq.eq f.entries c.args.key.now) c.self.view_is
+    let test = g.Q.Lookup.matches c.args.key in
+    sym (no-entry test (somes c.self.inside.places.places) (no-keys c.self.invariant test (g.met.Q.Lookup.like_eq c.args.key) c.in-None.ensures.absent))
+    ∙ ap (λ (f : TableView _ _ _). lookup_entry test f.entries) c.self.view_is

@@ -31,7 +31,7 @@ pub returns-in-Some-clause-written : goal.returns-in-Some-clause-written
 returns-in-Some-clause-written g c = λ _.
     let t = c.self.invariant in let e = c.place_mut.result.now in let at = c.place_mut.ensures.value in
     let here = is-here t c.args.key c.in-Some.slot e at c.in-Some.ensures.found in
-    rw (c.replace-old.ensures.after, sym (ap (λ (f : TableView _ _ _). f.entries) c.self.view_is)) (value-written g.K.PartialEq.eq c.args.key c.self.inside.places.places c.in-Some.slot e c.args.item at here (t.once c.args.key))
+    rw (c.replace-old.ensures.after, sym (ap (λ (f : TableView _ _ _). f.entries) c.self.view_is)) (value-written (g.K.PartialEq.eq c.args.key) c.self.inside.places.places c.in-Some.slot e c.args.item at here (t.once c.args.key))
 
 pub returns-in-Some-clause-replaced_count : goal.returns-in-Some-clause-replaced_count
 returns-in-Some-clause-replaced_count g c = λ _.

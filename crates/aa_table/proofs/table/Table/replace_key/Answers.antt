@@ -23,7 +23,7 @@ returns-in-Some-clause-old g c =
     let here = is-here t c.args.key c.in-Some.slot e at c.in-Some.ensures.found in
     ap (option_map (λ (x : _ × _). x.0))
     (sym (ap (λ (f : TableView _ _ _). entry_of g.K.PartialEq.eq f.entries c.args.key) c.self.view_is)
-    ∙ entry-read g.K.PartialEq.eq c.args.key c.self.inside.places.places c.in-Some.slot e at here (t.once c.args.key))
+    ∙ entry-read (g.K.PartialEq.eq c.args.key) c.self.inside.places.places c.in-Some.slot e at here (t.once c.args.key))
     ∙ ap (λ k. Some k) (sym c.replace.ensures.value)
 
 pub returns-in-Some-clause-replaced : goal.returns-in-Some-clause-replaced
@@ -35,4 +35,4 @@ returns-in-Some-clause-replaced g c =
 pub returns-in-None-clause-absent : goal.returns-in-None-clause-absent
 returns-in-None-clause-absent g c =
     sym (ap (λ (f : TableView _ _ _). entry_of g.K.PartialEq.eq f.entries c.args.key) c.self.view_is)
-    ∙ no-entry g.K.PartialEq.eq c.args.key (somes c.self.inside.places.places) (absent-keys c.self.invariant c.args.key c.in-None.ensures.absent)
+    ∙ no-entry (g.K.PartialEq.eq c.args.key) (somes c.self.inside.places.places) (absent-keys c.self.invariant c.args.key c.in-None.ensures.absent)

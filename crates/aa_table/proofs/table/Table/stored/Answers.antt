@@ -18,4 +18,4 @@ returns g c =
     let t = c.self.invariant in let e = c.place-entry.result.now in let at = c.place-entry.ensures in
     let here = is-here t c.args.key.now c.in-Some.slot e at c.in-Some.ensures.found in
     sym (ap (λ (f : TableView _ _ _). entry_of g.K.PartialEq.eq f.entries c.args.key.now) c.self.view_is)
-    ∙ entry-read g.K.PartialEq.eq c.args.key.now c.self.inside.places.places c.in-Some.slot e at here (t.once c.args.key.now)
+    ∙ entry-read (g.K.PartialEq.eq c.args.key.now) c.self.inside.places.places c.in-Some.slot e at here (t.once c.args.key.now)

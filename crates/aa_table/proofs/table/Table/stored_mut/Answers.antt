@@ -22,6 +22,6 @@ pub returns : goal.returns
 returns g c =
     let t = c.self.invariant in let e = c.place_mut.result.now in let at = c.place_mut.ensures.value in
     let here = is-here t c.args.key.now c.in-Some.slot e at c.in-Some.ensures.found in (
-      (refl, λ w. written-filled g.K.PartialEq.eq c.args.key.now c.self.inside.places.places c.in-Some.slot e w at here (t.once c.args.key.now) c.self.view_is),
+      (refl, λ w. written-filled (g.K.PartialEq.eq c.args.key.now) c.self.inside.places.places c.in-Some.slot e w at here (t.once c.args.key.now) c.self.view_is),
       record { writes_back = tt; value = sym (ap (λ (f : TableView _ _ _). value g.K.PartialEq.eq f.entries c.args.key.now) c.self.view_is) ∙ read t c.args.key.now c.in-Some.slot e at c.in-Some.ensures.found },
     )
