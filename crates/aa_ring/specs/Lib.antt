@@ -6,3 +6,4 @@ pub mod Drain
 pub mod Extending
 pub mod Popping
 pub mod Retaining
+pub mod Vectors

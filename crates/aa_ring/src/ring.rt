@@ -25,6 +25,7 @@ mod search;
 mod shrink;
 mod split;
 mod turns;
+mod vectors;
 
 /// A double-ended queue over the allocator `A`.
 ///

@@ -575,3 +575,16 @@ fn rings_over_different_allocators_are_compared(rt: HostRuntime) -> Result<(), F
     assert!(rt; compared(&ring, &other) == (Ordering::Less, Some(Ordering::Less)));
     Ok(())
 }
+
+#[test]
+fn vectors_and_rings_take_over_each_others_block(rt: HostRuntime) {
+    let heap = Faulty::new(rt.alloc());
+    let ring = turned(&heap, 0..4);
+    let requests = heap.requests();
+    let list: Vec<u64, &Faulty<Global>> = ring.into();
+    assert!(rt; list[..] == [0, 1, 2, 3][..]);
+    let ring: Small<'_> = list.into();
+    assert!(rt; has(&ring, &[0, 1, 2, 3]) && heap.requests() == requests);
+    drop(ring);
+    assert!(rt; heap.outstanding() == 0);
+}

@@ -82,7 +82,7 @@ impl<T, A: Allocator> Ring<T, A> {
 // Moves the `wrapped` values at the first places and the `count` values from `front` on into one
 // run at the first places, the latter first. Returns how many values were written.
 #[tactic(auto, using(crate::proofs::Rings::gathered))]
-fn gather<T, A: Allocator>(
+pub(super) fn gather<T, A: Allocator>(
     block: &mut RawVec<T, A>,
     front: usize,
     count: usize,
