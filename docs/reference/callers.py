@@ -13,8 +13,8 @@ SKIPPED = {"faulty"}
 TESTS = ["ex_tests", "table_tests", "ring_tests", "inline_tests", "slots_tests", "ordered_tests", "heap_tests", "layer_tests", "refusal_tests"]
 # The layers that stand on the block. Their functions are quoted if no other calls an item, as a collection's own are.
 LAYERS = ["aa_boxed", "aa_vec", "aa_gap"]
-# The traits whose methods are called on a type of another crate.
-TRAITS = {"SliceExt", "Repeat", "Watch", "Layer", "Chooser"}
+# The traits whose methods are called on a type of another crate, or of a parameter.
+TRAITS = {"SliceExt", "Repeat", "Watch", "Layer", "Chooser", "Hinted"}
 
 
 def sources():
@@ -74,25 +74,30 @@ def leaves(tree, before=()):
 class Scope:
     """What a file's names mean, by its `use` lines: a name that no line imports is the toolchain's, or the file's own.
 
-    `returned` has the types that the file's functions return.
+    `returned` has the types that the file's functions return, a method's under `self.NAME`, and `parts` those of a tuple that is returned.
     """
 
     def __init__(self, text, types, crates):
-        own = re.findall(r"^pub (?:struct|enum|trait) (\w+)", text, re.M) if "crate" in crates else ()
+        own = re.findall(r"^pub (?:struct|enum|trait|fn) (\w+)", text, re.M) if "crate" in crates else ()
         trees = re.findall(r"^[ ]*(?:pub(?:\(\w+\))? )?use ([^;]+);", text, re.M)
         self.names = {name: ("crate", name) for name in own} | {name: path for tree in trees for name, path in leaves(tree)}
-        self.types, self.crates, self.returned = types, crates, {}
+        self.types, self.crates, self.returned, self.parts = types, crates, {}, {}
         for name, path in re.findall(r"^(?:pub(?:\(\w+\))? )?type (\w+)(?:<[^=]*>)? = ((?:\w+::)*\w+)", text, re.M):
             self.names.setdefault(name, self.path(path))
         for name, of in re.findall(r"[<,] ?([A-Z]): (\w+)", text):
             self.names.setdefault(name, self.path(of))
-        for name, of in re.findall(r"^(?:pub(?:\(\w+\))? )?fn (\w+)[^;{]*?\) -> (.*)", text, re.M):
-            self.returned[name] = next((it for it in map(self.type, re.findall(r"(?:\w+::)*\w+", of)) if it), None)
+        for indent, name, of in re.findall(r"^( *)(?:pub(?:\(\w+\))? )?fn (\w+)[^;{]*?\) -> (.*)", text, re.M):
+            self.returned["self." * bool(indent) + name] = self.first_type(of)
+            self.parts[name] = [self.first_type(it) for it in re.findall(r"[^(), ]+", of)] if re.match(r"\([\w, ]+\)", of) else []
 
     def type(self, written):
         """The type that a path names, if it is one of these crates', or none."""
         path = self.path(written)
         return path[-1] if path[0] in self.crates and path[-1] in self.types else None
+
+    def first_type(self, text):
+        """The first type of these crates that a text names, or none."""
+        return next((it for it in map(self.type, re.findall(r"(?:\w+::)*\w+", text)) if it), None)
 
     def path(self, written):
         """A path from its crate on, if the file imports its first name."""
@@ -103,23 +108,27 @@ class Scope:
         """The names in a text that have a type of the library: parameters, fields, and what a type's functions return."""
         written = re.findall(r"\b(\w+): (?:&(?:'\w+ )?(?:mut )?)?((?:\w+::)*\w+)", text)
         written += re.findall(r"let (?:mut )?(\w+) = ((?:\w+::)*\w+)(?:::<[^>]*>)?::\w+\(", text)
-        calls = re.findall(r"let (?:mut )?(\w+) = (\w+)\(", text)
+        calls = re.findall(r"let (?:(?:Ok|Some)\()?(?:mut )?(\w+)\)? = (\w+)\(", text)
         for names, made in re.findall(r"let \(([\w, ]+)\) = \(([^;]*)\);", text):
             calls += zip(re.findall(r"\w+", names.replace("mut ", "")), re.findall(r"(?:^|, )(\w+)\(", made))
         found = {name: self.returned.get(call) for name, call in calls}
+        for names, call in re.findall(r"let \(([\w, ]+)\) = (\w+)\(", text):
+            names = [it.split()[-1] for it in names.split(", ")]
+            found.update(zip(names, self.parts.get(call, ())) if len(names) == len(self.parts.get(call, ())) else ())
         found.update({name: self.type(path) for name, path in written})
         return {name: of for name, of in found.items() if of}
 
 
 def fields_in(text, scope):
-    """The fields of the file's structs that have a type of the library."""
-    inside = re.findall(r"^(?:pub(?:\(crate\))? )?struct \w+.*?\{\n(.*?)^\}", text, re.M | re.S)
-    return scope.typed("\n".join(inside))
+    """The fields of each of the file's structs that have a type of the library."""
+    structs = re.findall(r"^(?:pub(?:\(crate\))? )?struct (\w+)[^;{]*\{\n(.*?)^\}", text, re.M | re.S)
+    return {name: scope.typed(inside) for name, inside in structs}
 
 
 # A name that is bound to what a function of a type returns, or a method called, whose result may be bound to a name.
 MADE_OR_CALLED = re.compile(
-    r"let (?:mut )?(\w+) = ((?:\w+::)*\w+)(?:::<[^>]*>)?::\w+\(|(?:let (?:mut )?(\w+) = )?((?:\w+\.)*\w+)\.(\w+)(?:::<[^>]*>)?\("
+    r"let (?:(?:Ok|Some)\()?(?:mut )?(\w+)\)? = ((?:\w+::)*\w+)(?:::<[^>]*>)?::\w+\("
+    r"|(?:let (?:mut )?(\w+) = )?((?:\w+\.)*\w+)\.(\w+)(?:::<[^>]*>)?\("
 )
 
 
@@ -150,31 +159,42 @@ def calls_of(lines, fields, scope, methods):
     for arm, end in zip(arms, [it.start() for it in arms[1:]] + [len(inside)]):
         for name in re.findall(rf"\b{arm[2]}\.(\w+)\(", inside[arm.end() : end]):
             found |= {(of, name) for of in [variants()[arm[1]]] if (of, name) in methods}
-    # Functions that belong to no type, and methods of a trait that the file imports.
-    for name in re.findall(r"(?<![\w.:])(\w+)(?:::<[^>]*>)?\(", inside):
+    # Functions that belong to no type, macros, and methods of a trait that the file imports.
+    for name in re.findall(r"(?<![\w.:])(\w+)(?:(?:::<[^>]*>)?\(|!\[)", inside):
         if scope.path(name)[0] in scope.crates and ("", name) in methods:
             found.add(("", name))
     traits = {of for of in scope.names if scope.type(of)}
     for name in re.findall(r"(?:\.|\bu\d+::)(\w+)(?:::<[^>]*>)?\(", inside):
         found |= {(of, name) for of in traits & TRAITS if (of, name) in methods}
-    # What is called on what a call returns, from left to right.
+    # What is called on what a function of the file returns, and on what a call returns, from left to right.
+    for own, first, name in re.findall(r"(?<![\w:.])(self\.)?(\w+)\((?:[^()]|\([^()]*\))*\)\??(?=\.(\w+)(?:::<[^>]*>)?\()", inside):
+        found |= {(of, name) for of in [scope.returned.get(own + first)] if (of, name) in methods}
     for first, name in re.findall(r"\.(\w+)\((?:[^()]|\([^()]*\))*\)\??(?=\.(\w+)\()", inside):
         found |= {(of, name) for of in {methods[it] for it in found if it[1] == first} if (of, name) in methods}
     return found
 
 
-def callers(types, methods, crates=tuple(CRATES)):
-    """The callers of each function of some crates, by default the library's: in the guide first, then in the examples, then in tests."""
+def callers(types, methods, crates=tuple(CRATES), of_trait=()):
+    """The callers of each function of some crates, by default the library's: in the guide first, then in the examples, then in tests.
+
+    `of_trait` has the method of a trait that a call of it on a type is.
+    """
     found = collections.defaultdict(list)
     passing = {it.parent.parent.name for it in (TOP / "crates").glob("*/src/lib.rt") for of in crates if f"pub use {of}::" in text_of(it)}
-    inner = collections.defaultdict(list)
+    inner, scopes, structs = collections.defaultdict(list), {}, collections.defaultdict(dict)
     for crate, file in sources():
-        is_inner = crate in crates
         below = {"aa_raw"} if crate in LAYERS else {"crate"}
-        scope = Scope(text_of(file), types, below if is_inner else {*crates, *passing})
-        fields = fields_in(text_of(file), scope)
+        scopes[file] = Scope(text_of(file), types, below if crate in crates else {*crates, *passing})
+        structs[crate].update(fields_in(text_of(file), scopes[file]))
+    for crate, file in sources():
+        is_inner, scope = crate in crates, scopes[file]
+        near = {name: of for it in fields_in(text_of(file), scope).values() for name, of in it.items()}
+        is_named = is_inner or any(f"{it}::" in text_of(file) for it in scope.crates)
         for name, line, lines, owner in functions(file):
-            made = calls_of(lines, fields, scope, methods)
+            if not (is_named or structs[crate].get(owner)):
+                continue
+            made = calls_of(lines, {**structs[crate].get(owner, {}), **near}, scope, methods)
+            made = {of_trait[it] if it in of_trait else it for it in made}
             caller = Caller(crate, file, f"{owner}::{name}" if owner else name, line, lines, made)
             for call in made:
                 (inner if is_inner else found)[call].append(caller)
@@ -207,7 +227,9 @@ def faults(found):
         made = calls_of(CALLER.split("\n"), {}, Scope(lines, {"Vec"}, CRATES), methods)
         if made != (set(methods) if ours else set()):
             yield f"docs/reference/callers.py: after `{lines}` a file calls {sorted(made)} of the library"
-    files = {it.file for there in found.values() for it in there}
-    for file in sorted(files):
-        if not re.search(rf"\b(?:{'|'.join(CRATES)})::", text_of(file)):
+    naming = {file for _, file in sources() if re.search(rf"\b(?:{'|'.join(CRATES)})::", text_of(file))}
+    others = {(it.crate, it.file, it.name.split("::")[0]) for there in found.values() for it in there if it.file not in naming}
+    for crate, file, owner in sorted(others):
+        # Or the file does that declares the struct whose method it is.
+        if not any(it == crate and other in naming and re.search(rf"\bstruct {owner}\b", text_of(other)) for it, other in sources()):
             yield f"{file.relative_to(TOP)} is a caller of the library, but does not name it"

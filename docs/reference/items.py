@@ -244,21 +244,23 @@ class Items:
         if section_of.trait:
             return ""
         proved, tests = ([it for it in there if (it.crate in callers.TESTS) == is_test] for is_test in (False, True))
-        return self.calling("Proved callers", proved, item) + self.calling("Tests that call it", tests, item)
+        owner = of.name if of else section_of.type
+        return self.calling("Proved callers", proved, item, owner) + self.calling("Tests that call it", tests, item, owner)
 
-    def calling(self, title, there, item):
+    def calling(self, title, there, item, of):
         """A list of callers."""
         if not there:
             return ""
-        quoted = "".join(self.quote(it, item.name) for it in there[:QUOTED])
+        quoted = "".join(self.quote(it, item.name, of) for it in there[:QUOTED])
         others = [link(self.source_link(it.file, it.line), code(f"{it.crate}::{it.name}")) for it in there[QUOTED : QUOTED + NAMED]]
         more = f", and {len(there) - QUOTED - NAMED} more" if len(there) > QUOTED + NAMED else ""
         rest = f"<p>Also by {', '.join(others)}{more}.</p>" if others else ""
         return folded(f"{title}: {len(there)}", quoted + rest)
 
-    def quote(self, caller, name):
+    def quote(self, caller, name, of):
         text = self.rust(textwrap.dedent("\n".join(caller.text)))
-        text = re.sub(rf"(?<=[.:]){name}(?=(::&lt;[^(]*)?\()", f"<mark>{name}</mark>", text)
+        before = "(?<=[.:])" if of else r"(?<!fn )(?<![\w.:])"
+        text = re.sub(rf"{before}{name}(?=(::&lt;[^(]*)?\(|!)", f"<mark>{name}</mark>", text)
         where = link(self.source_link(caller.file, caller.line), f"{caller.file.relative_to(TOP)}:{caller.line}")
         return f'<p class="where">{where}</p>{piece(text, "quote")}'
 

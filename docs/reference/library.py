@@ -207,19 +207,26 @@ class Reference:
         for name, it in self.known.items():
             fields = re.findall(r"^    (?:pub )?(\w+):", "\n".join(struct_of(it)), re.M)
             self.links.by_record.setdefault(name, set(fields))
-        self.callers = callers.callers(set(library.types), self.methods(), library.crates)
+        methods, of_trait = self.methods(), self.methods_of_traits()
+        self.callers = callers.callers(set(library.types), methods | dict.fromkeys(of_trait), library.crates, of_trait)
         self.named = {}
         for word, href in self.words.items():
             self.named.setdefault(word.name, []).append(href)
 
     def methods(self):
-        """The methods of types, each with the first of these types in what it returns, if there is one; and functions of no type."""
+        """The methods of types, each with the first of these types in what it returns, if there is one; functions of no type, and macros."""
         found = {}
         for it in self.library.types.values():
             for _, call in it.calls:
                 returned = call.signature.partition("->")[2].replace("Self", it.name)
                 found[it.name, call.name] = next((name for name in re.findall(r"\w+", returned) if name in self.library.types), None)
-        return found | {("", item.name): None for page in self.library.pages.values() for _, item in page.functions}
+        return found | {("", item.name): None for page in self.library.pages.values() for _, item in page.functions + page.macros}
+
+    def methods_of_traits(self):
+        """The methods that types have by the library's traits, each with what it is of the trait."""
+        types = self.library.types
+        there = [(of, types[section.trait]) for of in types.values() for section, _ in of.impls if section.trait in types]
+        return {(of.name, call.name): (it.name, call.name) for of, it in there for _, call in it.calls}
 
     def context(self, section, item=None):
         """The context of an item's clauses."""
