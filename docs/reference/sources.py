@@ -244,16 +244,16 @@ def passed_names(crate):
 
 @functools.lru_cache(maxsize=None)
 def types_of(crate):
-    """The types of a crate, and those of them that can be named from outside."""
+    """The types and traits of a crate, and those of them that can be named from outside."""
     every, named = set(), set(passed_names(crate))
     for module in modules(crate):
-        every |= set(re.findall(r"^(?:pub(?:\(crate\))? )?(?:struct|enum) (\w+)", text_of(module.file), re.M))
-        named |= set(re.findall(r"^pub (?:struct|enum) (\w+)", text_of(module.file), re.M)) if module.public else set()
+        every |= set(re.findall(r"^(?:pub(?:\(crate\))? )?(?:struct|enum|trait) (\w+)", text_of(module.file), re.M))
+        named |= set(re.findall(r"^pub (?:struct|enum|trait) (\w+)", text_of(module.file), re.M)) if module.public else set()
     return every, named
 
 
 def hidden_types(module):
-    """The types of its crate that cannot be named from outside."""
+    """The types and traits of its crate that cannot be named from outside."""
     every, named = types_of(module.crate)
     return every - named
 
