@@ -86,7 +86,7 @@ class Scope:
             self.names.setdefault(name, self.path(path))
         for name, of in re.findall(r"[<,] ?([A-Z]): (\w+)", text):
             self.names.setdefault(name, self.path(of))
-        for indent, name, of in re.findall(r"^( *)(?:pub(?:\(\w+\))? )?fn (\w+)[^;{]*?\) -> (.*)", text, re.M):
+        for indent, name, of in re.findall(r"^( *)(?:pub(?:\(\w+\))? )?fn (\w+)(?:[^;{\[]|\[[^\]]*\])*?\) -> (.*)", text, re.M):
             self.returned["self." * bool(indent) + name] = self.first_type(of)
             self.parts[name] = [self.first_type(it) for it in re.findall(r"[^(), ]+", of)] if re.match(r"\([\w, ]+\)", of) else []
 
@@ -202,6 +202,15 @@ def callers(types, methods, crates=tuple(CRATES), of_trait=()):
     for there in found.values():
         there.sort(key=lambda it: (it.crate in TESTS, it.crate != "guide", len(it.text)))
     return found
+
+
+def proofs_by(caller, name):
+    """The file with the caller's proof by hand, and those of its parts that use what a call of the function `name` ensures."""
+    crate = TOP / "crates" / caller.crate
+    module = [it for it in caller.file.relative_to(crate / "src").with_suffix("").parts if it != "lib"]
+    file = (crate / "proofs").joinpath(*module, *caller.name.split("::")) / "Answers.antt"
+    parts = text_of(file).strip("\n").split("\n\n") if file.is_file() else []
+    return file, [it for it in parts if f"c.{name}." in it]
 
 
 # Whose vector a file calls, by its `use` lines: the library's, or not.

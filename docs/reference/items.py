@@ -262,7 +262,14 @@ class Items:
         before = "(?<=[.:])" if of else r"(?<!fn )(?<![\w.:])"
         text = re.sub(rf"{before}{name}(?=(::&lt;[^(]*)?\(|!)", f"<mark>{name}</mark>", text)
         where = link(self.source_link(caller.file, caller.line), f"{caller.file.relative_to(TOP)}:{caller.line}")
-        return f'<p class="where">{where}</p>{piece(text, "quote")}'
+        return f'<p class="where">{where}</p>{piece(text, "quote")}' + ("" if of else self.proof(caller, name))
+
+    def proof(self, caller, name):
+        """The part of a caller's proof that uses what its call of a function ensures."""
+        file, parts = callers.proofs_by(caller, name)
+        text = plain("\n\n".join(parts)).replace(f"c.{name}.", f"c.<mark>{name}</mark>.")
+        where = link(self.source_link(file), f"{file.relative_to(TOP)}") if parts else ""
+        return f'<p class="where">{where}</p>{piece(text, "quote")}' if parts else ""
 
     def source(self, file, line):
         return link(self.source_link(file, line), f"{file.name}:{line}", "line")
