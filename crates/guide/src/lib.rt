@@ -17,6 +17,7 @@ pub mod buffers;
 pub mod chosen;
 pub mod compared;
 pub mod copies;
+pub mod laws;
 pub mod moved;
 pub mod positions;
 pub mod ranges;
