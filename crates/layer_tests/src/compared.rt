@@ -1,7 +1,7 @@
 //! What no clause says of comparing, printing and writing vectors: each once, and by callers that
 //! know a bound alone.
 use crate::lists::{has_items, list};
-use aa_boxed::slices::partial_compare;
+use aa_boxed::slices::{compare, partial_compare};
 use aa_raw::collections::TryReserveError;
 use aa_vec::vec::{Vec, same};
 use std::alloc::{AllocError, Global};
@@ -26,6 +26,7 @@ fn is_before(short: &Vec<u32>, long: &Vec<u32>) -> bool {
         && short.partial_cmp(long) == Some(Ordering::Less)
         && order_of(long, short) == Ordering::Greater
         && !same(short.as_slice(), long.as_slice())
+        && compare(short.as_slice(), long.as_slice()) == Ordering::Less
 }
 
 #[test]

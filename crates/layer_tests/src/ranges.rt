@@ -93,6 +93,21 @@ fn a_range_is_replaced_by_any_iterator(rt: HostRuntime) {
     assert!(rt; is_so(&heap, (123, 3, (1, 3), 8..10, 189, 3)));
 }
 
+// Takes the first and the last of the places 1 to 3, and replaces these by a seven.
+fn ends_replaced(v: &mut Vec<u32>) -> (Option<u32>, Option<u32>) {
+    let to = v.len().min(4);
+    let mut range = v.splice(to.min(1)..to, 7..8);
+    let ends = (range.next(), range.next_back());
+    let _ended = range.finish();
+    ends
+}
+
+#[test]
+fn a_splice_is_taken_from_both_ends(rt: HostRuntime) {
+    let mut v = digits(rt.alloc(), 12345, 5);
+    assert!(rt; ends_replaced(&mut v) == (Some(2), Some(4)) && reads(&v, 175, 5));
+}
+
 // What a splice of the places 1 and 2 by a seven prints.
 fn printed(alloc: Global, v: &mut Vec<u32>) -> Result<String, AllocError> {
     let to = v.len().min(3);
