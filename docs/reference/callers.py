@@ -174,10 +174,10 @@ def calls_of(lines, fields, scope, methods):
     return found
 
 
-def callers(types, methods, crates=tuple(CRATES), of_trait=()):
+def callers(types, methods, crates=tuple(CRATES), meant=()):
     """The callers of each function of some crates, by default the library's: in the guide first, then in the examples, then in tests.
 
-    `of_trait` has the method of a trait that a call of it on a type is.
+    `meant` has the method of a trait, or of the type that another name stands for, that a call is.
     """
     found = collections.defaultdict(list)
     passing = {it.parent.parent.name for it in (TOP / "crates").glob("*/src/lib.rt") for of in crates if f"pub use {of}::" in text_of(it)}
@@ -194,7 +194,7 @@ def callers(types, methods, crates=tuple(CRATES), of_trait=()):
             if not (is_named or structs[crate].get(owner)):
                 continue
             made = calls_of(lines, {**structs[crate].get(owner, {}), **near}, scope, methods)
-            made = {of_trait[it] if it in of_trait else it for it in made}
+            made = {meant[it] if it in meant else it for it in made}
             caller = Caller(crate, file, f"{owner}::{name}" if owner else name, line, lines, made)
             for call in made:
                 (inner if is_inner else found)[call].append(caller)

@@ -207,8 +207,8 @@ class Reference:
         for name, it in self.known.items():
             fields = re.findall(r"^    (?:pub )?(\w+):", "\n".join(struct_of(it)), re.M)
             self.links.by_record.setdefault(name, set(fields))
-        methods, of_trait = self.methods(), self.methods_of_traits()
-        self.callers = callers.callers(set(library.types), methods | dict.fromkeys(of_trait), library.crates, of_trait)
+        methods, meant = self.methods(), self.methods_meant()
+        self.callers = callers.callers(set(library.types), {it: methods[of] for it, of in meant.items()} | methods, library.crates, meant)
         self.named = {}
         for word, href in self.words.items():
             self.named.setdefault(word.name, []).append(href)
@@ -222,11 +222,16 @@ class Reference:
                 found[it.name, call.name] = next((name for name in re.findall(r"\w+", returned) if name in self.library.types), None)
         return found | {("", item.name): None for page in self.library.pages.values() for _, item in page.functions + page.macros}
 
-    def methods_of_traits(self):
-        """The methods that types have by the library's traits, each with what it is of the trait."""
+    def methods_meant(self):
+        """The methods that types have by the library's traits, each with what it is of the trait, and by a `pub type`, of the type that it names."""
         types = self.library.types
-        there = [(of, types[section.trait]) for of in types.values() for section, _ in of.impls if section.trait in types]
-        return {(of.name, call.name): (it.name, call.name) for of, it in there for _, call in it.calls}
+        there = [(of.name, types[section.trait]) for of in types.values() for section, _ in of.impls if section.trait in types]
+        for written, name in self.library.aliases.items():
+            base = types.get(re.match(r"\w*", written)[0])
+            while base and base.item and base.item.kind == "type":
+                base = types.get(re.search(r" = (\w+)", base.item.shown[0])[1])
+            there += [(name, base)] if base else []
+        return {(name, call.name): (it.name, call.name) for name, it in there for _, call in it.calls}
 
     def context(self, section, item=None):
         """The context of an item's clauses."""
