@@ -1,6 +1,7 @@
 //! The guide's callers, and what a vector has as a slice.
 use allocator_api2::boxed::Box;
 use allocator_api2::vec::Vec;
+use guide::laws::{cut_and_join, spare, without_spare};
 use guide::ranges::rotate_left;
 use guide::slices;
 
@@ -9,6 +10,19 @@ fn four_numbers_are_turned(rt: HostRuntime) {
     let mut v = Vec::from_array_in([1u32, 2, 3, 4], rt.alloc()).expect(&rt, "room");
     rotate_left(&mut v, 1).expect(&rt, "room");
     assert!(rt; v.as_slice() == [2, 3, 4, 1].as_slice());
+}
+
+#[test]
+fn a_vector_is_cut_and_joined_and_boxed(rt: HostRuntime) {
+    let mut v = Vec::from_array_in([1u32, 2, 4], rt.alloc()).expect(&rt, "room");
+    assert!(rt; cut_and_join(&mut v, 1).is_ok() && v.as_slice() == [1, 2, 4].as_slice());
+    let _last = v.pop();
+    assert!(rt; spare(&v) == 1);
+    let Ok(v) = without_spare(v) else {
+        assert!(rt; false);
+        return;
+    };
+    assert!(rt; spare(&v) == 0 && v.as_slice() == [1, 2].as_slice());
 }
 
 #[test]

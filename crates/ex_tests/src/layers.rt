@@ -124,6 +124,15 @@ fn a_layer_requests_another_layout(rt: HostRuntime) {
     assert!(rt; taken(rt.alloc(), 16) == 40 && taken(rt.alloc(), 17) == 48);
 }
 
+// The inner allocator was called, and the layer chooses layouts.
+#[test]
+fn a_layer_shows_its_parts(rt: HostRuntime) {
+    let below = Faulty::new(rt.alloc());
+    let heap = Layered::with_layer(&below, Padded);
+    assert!(rt; has_room(&heap, 16) && heap.inner().requests() == 1);
+    assert!(rt; heap.layer().size_for(16, 1) == Some(40) && heap.layer().align_for(16, 1) == 8);
+}
+
 #[test]
 fn a_fallback_is_right(rt: HostRuntime) {
     let below = count_below(rt.alloc());

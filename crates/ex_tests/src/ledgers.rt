@@ -1,5 +1,6 @@
-//! A budget's ledger, by itself and as a purse shares it.
+//! A budget's ledger, by itself and as a purse shares it; and a counter.
 use aa_watched::budget::Purse;
+use aa_watched::counting::{Counter, Counts};
 use aa_watched::ledger::Ledger;
 use aa_watched::watched::Watch;
 
@@ -43,4 +44,21 @@ fn purse_is_used(purse: &Purse) -> bool {
 fn a_purse_keeps_a_ledger(rt: HostRuntime) {
     let purse = Purse::new(48);
     assert!(rt; purse_is_used(&purse) && numbers(purse.ledger()) == (48, 24, 24, 40));
+}
+
+// The counts after 40 bytes were allocated, 9 more failed, and the 40 were deallocated.
+fn counted(counter: &Counter) -> Counts {
+    counter.should_fail(40, 8);
+    counter.on_allocate(40, 8);
+    counter.should_fail(9, 8);
+    counter.on_failure(9, 8);
+    counter.on_deallocate(40, 8);
+    counter.counts()
+}
+
+#[test]
+fn a_counter_counts_calls(rt: HostRuntime) {
+    let counts = counted(&Counter::default());
+    assert!(rt; (counts.requests, counts.granted, counts.frees) == (2, 1, 1));
+    assert!(rt; (counts.bytes, counts.outstanding, counts.most) == (40, 0, 40));
 }

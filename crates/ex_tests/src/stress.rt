@@ -6,7 +6,9 @@ use aa_allocator_tests::fault::{Broken, Fault};
 use aa_allocator_tests::random::Random;
 use aa_allocator_tests::reach::Report;
 use aa_allocator_tests::script::{Replay, Script, Step};
-use aa_allocator_tests::stress::{replay, stress, stress_over_two, stress_with_clone};
+use aa_allocator_tests::stress::{
+    replay, replay_over_two, replay_with_clone, stress, stress_over_two, stress_with_clone,
+};
 use aa_allocators::pool::Pool;
 use aa_allocators::recycler::Recycler;
 use aa_watched::budget::Budget;
@@ -143,13 +145,13 @@ fn a_fault_is_shown_by_one_step(rt: HostRuntime) {
     let Ok(mut script) = Script::new(rt.alloc(), config) else {
         return;
     };
-    assert!(rt; script.has(Step::Call(0)) && script.len() == 104);
+    assert!(rt; script.has(Step::Call(0)) && script.len() == 104 && script.config().seed == 7);
     let before = subject.replay(&script).err();
     assert!(rt; before.is_some_and(|it| it.broken == Broken::PastLimit && it.seed == 7));
     script.minimise(Broken::PastLimit, &subject);
     let after = subject.replay(&script).err();
     assert!(rt; after.is_some_and(|it| it.broken == Broken::PastLimit && it.step == 1));
-    assert!(rt; script.len() == 1);
+    assert!(rt; script.len() == 1 && !script.is_empty());
 }
 
 // Two inner allocators, of which the second is used by nobody.
@@ -159,6 +161,22 @@ fn one_of_two_is_enough(rt: HostRuntime) {
     let heap = Counting::new(&first);
     let report = stress_over_two(rt.alloc(), &first, &second, heap, Config::new(7, 40));
     assert!(rt; report.is_ok() && first.watch().stray().is_none());
+}
+
+// A script of all steps has the report of the run itself, over two allocators and with a clone.
+#[test]
+fn a_run_is_replayed(rt: HostRuntime) {
+    let config = Config::new(7, 40);
+    let (first, second) = (count_below(rt.alloc()), count_below(rt.alloc()));
+    let Ok(script) = Script::new(rt.alloc(), config) else {
+        return;
+    };
+    let run = stress_over_two(rt.alloc(), &first, &second, Counting::new(&first), config).ok();
+    let again = replay_over_two(rt.alloc(), &first, &second, Counting::new(&first), &script).ok();
+    assert!(rt; run.is_some() && run == again);
+    let run = stress_with_clone(rt.alloc(), &first, Counting::new(&first), config).ok();
+    let again = replay_with_clone(rt.alloc(), &first, Counting::new(&first), &script).ok();
+    assert!(rt; run.is_some() && run == again);
 }
 
 #[test]
