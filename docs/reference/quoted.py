@@ -1,6 +1,9 @@
 """Finds the public functions and macros that the reference shows without an example: no caller in the guide, the examples or the tests."""
 from words import TOP
 
+# What needs no example, as its crate and name, with the reason.
+EXEMPT = {}
+
 
 def items(library):
     """Each public function and macro of a library, with the type that has it, if one does, and the file that it is in."""
@@ -18,3 +21,11 @@ def without_example(site):
             if not there.get((of, item.name)):
                 yield name, f"{file.relative_to(TOP)}:{item.line}"
 
+
+def faults(site):
+    """What is wrong: an item without an example that is not exempt, or one that is exempt and has one."""
+    left = dict(without_example(site))
+    for name, place in left.items():
+        if name not in EXEMPT:
+            yield f"{place}: {name} has no caller in the guide, the examples or the tests, so the reference shows no example of it"
+    yield from (f"docs/reference/quoted.py exempts {name}, which has an example or does not exist" for name in EXEMPT if name not in left)
