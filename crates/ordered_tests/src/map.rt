@@ -350,6 +350,26 @@ fn keys_are_removed_by_their_entries(rt: HostRuntime) {
     assert!(rt; map.len() == 99 && map.get(&49) == Some(&1) && map.get(&70) == None);
 }
 
+// Sets the value of a key that is present. Returns the old value and the new one, or the key if it
+// is absent.
+fn replaced(map: &mut Small<'_>, key: u64, value: u64) -> Result<(u64, u64), u64> {
+    match map.entry(key) {
+        Entry::Occupied(mut entry) => {
+            let old = entry.insert(value);
+            Ok((old, *entry.get()))
+        }
+        Entry::Vacant(entry) => Err(entry.into_key()),
+    }
+}
+
+#[test]
+fn values_are_replaced_by_their_entries(rt: HostRuntime) {
+    let heap = Faulty::new(rt.alloc());
+    let mut map = none(&heap);
+    assert!(rt; adds(&mut map, 5, 1) && replaced(&mut map, 5, 7) == Ok((1, 7)));
+    assert!(rt; replaced(&mut map, 6, 7) == Err(6) && map.len() == 1 && map.get(&5) == Some(&7));
+}
+
 // The value of a key, which is 4 if it was absent.
 fn value_or_four(map: &mut Small<'_>, key: u64) -> Option<u64> {
     match map.entry(key).or_insert_with(|| 4) {

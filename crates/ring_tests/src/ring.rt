@@ -1,8 +1,11 @@
 //! The ring.
+ghost use Rattle.std.specs.Prelude.{◌*◌, ◌≤◌, length, IfSome};
+
+use aa_ring::laws::push_all;
 use aa_ring::ring::{Ring, compare_items, partial_compare_items, same, same_as_slice};
 use allocator_api2::collections::{TryReserveError, TryReserveErrorKind};
 use allocator_api2::vec::Vec;
-use std::alloc::{AllocError, Global};
+use std::alloc::{AllocError, Allocator, Global};
 use std::cmp::Ordering;
 use std::default::{Emptied, MadeWith};
 use std::fmt::Debug;
@@ -15,6 +18,28 @@ use test_allocators::Faulty;
 
 // A ring over an allocator that may fail.
 type Small<'a> = Ring<u64, &'a Faulty<Global>>;
+
+// A ring of these items, each pushed at the front if its flag is true. Growth moves at most two for
+// each of them.
+fn pushed<A: Allocator>(items: &[(bool, u64)], alloc: A) -> Option<Ring<u64, A>>
+    ensures { IfSome result (λ r. r.grown.moved ≤ 2 * length items.now) }
+{
+    let mut ring: Ring<u64, A> = Ring::new_in(alloc);
+    push_all(&mut ring, items).ok()?;
+    Some(ring)
+}
+
+#[test]
+fn items_are_pushed_at_the_end_that_each_names(rt: HostRuntime) {
+    let heap = Faulty::new(rt.alloc());
+    let Some(ring) = pushed(&[(false, 3), (true, 2), (true, 1), (false, 4)], &heap) else {
+        assert!(rt; false);
+        return;
+    };
+    assert!(rt; has(&ring, &[1, 2, 3, 4]));
+    heap.fail_requests(0, 1);
+    assert!(rt; pushed(&[(true, 1)], &heap).is_none());
+}
 
 // Returns whether the ring has these items, by its iterator and by their index.
 fn has(ring: &Small<'_>, items: &[u64]) -> bool {
