@@ -4,6 +4,7 @@ ghost use Rattle.allocator_api2.specs.Errors.{error_for};
 ghost use Rattle.allocator_api2.specs.Vector.{HasRoom, Holds, SameBlock};
 
 use allocator_api2::collections::{Refused, TryReserveError, TryReserveErrorKind};
+use allocator_api2::counter::Counter;
 use allocator_api2::vec::Vec;
 use std::alloc::Allocator;
 
@@ -110,4 +111,13 @@ fn push_within<A: Allocator>(v: &mut Vec<u64, A>, x: u64)
         Ok(()) => {}
         Err(_) => unreachable!(),
     }
+}
+
+/// Raises a ghost counter to the length of `v`, so that it keeps the greatest one.
+///
+/// Does nothing at run time.
+pub fn note_length<T, A: Allocator>(longest: &mut Counter, v: &Vec<T, A>)
+    ensures { longest.new.count ≡ max longest.old.count (length v.now.items) }
+{
+    longest.raise(v.len());
 }

@@ -85,12 +85,21 @@ fn removed(names: &mut Names, name: &str) -> Option<usize> {
     Some(names.take(name)?.as_str().len())
 }
 
+// Returns whether there is such a name, and it is the one that is looked for.
+fn finds_itself(names: &Names, name: &str) -> bool {
+    match names.get(name) {
+        Some(found) => name.matches(found),
+        None => false,
+    }
+}
+
 #[test]
 fn elements_are_looked_up_by_what_they_say(rt: HostRuntime) {
     let heap = rt.alloc();
     let mut names = Names::new_in(heap);
     assert!(rt; add(&mut names, heap, &["Ada", "Grace", "Barbara"]));
     assert!(rt; names.contains("Ada") && !names.contains("ada") && names.get("Adah").is_none());
+    assert!(rt; finds_itself(&names, "Ada") && !finds_itself(&names, "Eve"));
     assert!(rt; removed(&mut names, "Grace") == Some(5) && removed(&mut names, "Grace").is_none());
     assert!(rt; names.remove("Ada") && !names.remove("Ada") && names.len() == 1);
 }
