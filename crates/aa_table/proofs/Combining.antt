@@ -9,10 +9,11 @@ use Rattle.std.proofs.lemmas.Bool.Decides.{nat_tests}
 use Rattle.std.proofs.lemmas.List.Folds.{list_any-append}
 use Rattle.std.proofs.lemmas.List.Sorted.{IsPermutation-cons, IsPermutation-trans, length_permutation, list_any-IsPermutation}
 use Rattle.std.proofs.lemmas.List.Sums.{fold-append}
-use Rattle.aa_table.specs.SetContents.{set_capacity_for, with_element, HasElements, SetHasRoom, SetView}
-use Rattle.aa_table.specs.Contents.{fresh_capacity, reserved_capacity}
+use Rattle.aa_table.specs.SetContents.{set_capacity_for, set_resizes_for, with_element, HasElements, SetHasRoom, SetView}
+use Rattle.aa_table.specs.Contents.{fresh_capacity, fresh_resizes, reserved_capacity, reserved_resizes}
 use Rattle.aa_table.specs.SetOperators.{InsertsClones, IsSetOfClones}
 use Rattle.aa_table.proofs.Maps.{none_permuted}
+use Rattle.aa_table.proofs.Extending.{reserved, resized}
 use Rattle.aa_table.proofs.Elementwise.{insert-element, none-inserted}
 
 pub all-of : {T : Type 0} (xs : List T) → filter (λ x. true) xs ≡ xs
@@ -89,9 +90,12 @@ module _ {T : Type 0} (eq : T → T → Bool) where
       each = both-zipped C xs a.clones ys b.clones a.each b.each;
       inserted = record {
         elements = both-inserted s.elements a.clones u.elements b.clones w.elements a.inserted.elements b.inserted.elements;
+        capacity = omega (arith, a.inserted.capacity, b.inserted.capacity);
+        resizes = λ _. b.resizes ∙ a.resizes;
         builder = b.inserted.builder ∙ a.inserted.builder;
       };
       capacity = b.capacity ∙ a.capacity;
+      resizes = b.resizes ∙ a.resizes;
     }
 
     -- what fits after them
@@ -99,39 +103,44 @@ module _ {T : Type 0} (eq : T → T → Bool) where
     still-room s u xs n a room = omega (arith, room, a.capacity, no-longer s.elements a.clones u.elements a.inserted.elements, zipped-length C xs a.clones a.each)
 
     pub none-cloned : (s : SetView T S) → InsertsClones eq C s [] s
-    none-cloned s = record { clones = []; each = tt; inserted = record { elements = none-inserted eq s.elements; builder = refl }; capacity = refl }
+    none-cloned s = record { clones = []; each = tt; inserted = record { elements = none-inserted eq s.elements; capacity = omega arith; resizes = λ _. refl; builder = refl }; capacity = refl; resizes = refl }
 
     -- one element more
     pub one-cloned : IsEquivalence eq → (s w : SetView T S) (x y : T) (fresh : Bool) → C x y → SetHasRoom s 1 → fresh ≡ not (is_member eq s.elements y)
-        → (fresh ≡ true → IsPermutation (y ∷ s.elements) w.elements) → (fresh ≡ true → w.capacity ≡ set_capacity_for s 1) → (fresh ≡ false → w ≡ s) → w.builder ≡ s.builder
+        → (fresh ≡ true → IsPermutation (y ∷ s.elements) w.elements) → (fresh ≡ true → w.capacity ≡ set_capacity_for s 1) → (fresh ≡ true → w.resizes ≡ set_resizes_for s 1) → (fresh ≡ false → w ≡ s) → w.builder ≡ s.builder
         → InsertsClones eq C s (x ∷ []) w
-    one-cloned E s w x y fresh c room is more made kept b = record {
+    one-cloned E s w x y fresh c room is more made resized kept b = record {
       clones = y ∷ [];
       each = (c, tt);
-      inserted = insert-element eq E s s w [] y fresh (record { elements = none-inserted eq s.elements; builder = refl }) is more kept b;
+      inserted = insert-element eq E s s w [] y fresh (record { elements = none-inserted eq s.elements; capacity = omega arith; resizes = λ _. refl; builder = refl }) is more made resized kept b;
       capacity = elim (cases_Bool fresh) [
         | inl t ↦
             let one : nat_le 1 (s.capacity - length s.elements) ≡ true = grind (arith, nat_tests, room) in
             grind (arith, one, made t)
         | inr f ↦ ap (λ (u : SetView _ _). u.capacity) (kept f)
       ];
+      resizes = elim (cases_Bool fresh) [
+        | inl t ↦
+            let one : nat_le 1 (s.capacity - length s.elements) ≡ true = grind (arith, nat_tests, room) in
+            grind (arith, one, resized t)
+        | inr f ↦ ap (λ (u : SetView _ _). u.resizes) (kept f)
+      ];
     }
 
     module _ (D : S → Type 0) where
-      reserved : (n : ℕ) → reserved_capacity 0 0 n ≡ fresh_capacity n
-      reserved n = grind (arith, nat_tests)
-
       -- the clones of two lists, in a new set
-      pub made-set : (none r u w : SetView T S) (xs ys : List T) (n : ℕ) → n ≡ length xs + length ys → none.elements ≡ [] → none.capacity ≡ 0
-          → IsPermutation none.elements r.elements → r.capacity ≡ set_capacity_for none n → InsertsClones eq C r xs u → InsertsClones eq C u ys w → D r.builder
+      pub made-set : (none r u w : SetView T S) (xs ys : List T) (n : ℕ) → n ≡ length xs + length ys → none.elements ≡ [] → none.capacity ≡ 0 → none.resizes ≡ 0
+          → IsPermutation none.elements r.elements → r.capacity ≡ set_capacity_for none n → r.resizes ≡ set_resizes_for none n → InsertsClones eq C r xs u → InsertsClones eq C u ys w → D r.builder
           → IsSetOfClones eq C D (xs ++ ys) w
-      made-set none r u w xs ys n count free least same made a b d =
+      made-set none r u w xs ys n count free least first same made moved a b d =
           let all = both-cloned r u w xs ys a b in
           let new : reserved_capacity none.capacity (length none.elements) n ≡ reserved_capacity 0 0 n = λ i. reserved_capacity (least i) (length (free i)) n in
+          let once : reserved_resizes none.resizes none.capacity (length none.elements) n ≡ reserved_resizes 0 0 0 n = λ i. reserved_resizes (first i) (least i) (length (free i)) n in
           record {
             clones = all.clones;
             each = all.each;
             elements = subst (λ es. HasElements eq es all.clones w.elements) (none_permuted none.elements r.elements same free) all.inserted.elements;
             capacity = all.capacity ∙ made ∙ new ∙ reserved n ∙ ap fresh_capacity (count ∙ sym (length-append xs ys));
+            resizes = all.resizes ∙ moved ∙ once ∙ resized n ∙ ap fresh_resizes (count ∙ sym (length-append xs ys));
             builder = subst D (sym all.inserted.builder) d;
           }

@@ -1,5 +1,5 @@
 -- Elements that are inserted one by one into a set, replaced, or cloned.
-use Rattle.std.proofs.Common.{Bool, List, [], ap, append-nil, arith, cond, false, inl, inr, length, refl, subst, sym, true, ℕ, ◌-◌, ◌++◌, ◌<◌, ◌∙◌, ◌∷◌, ◌≡◌}
+use Rattle.std.proofs.Common.{Bool, List, [], ap, append-nil, arith, cond, false, inl, inr, length, refl, subst, sym, true, ℕ, ◌-◌, ◌++◌, ◌<◌, ◌∙◌, ◌∷◌, ◌≡◌, ◌≤◌}
 use Rattle.std.specs.Prelude.{IsPermutation, is_some, map, nat_le, not, reverse, ◌||◌, if◌then◌else◌}
 use Rattle.std.specs.Cmp.{IsEquivalence}
 use Rattle.std.specs.List.{AllZip, fold}
@@ -11,7 +11,8 @@ use Rattle.std.proofs.lemmas.List.Folds.{list_any-append}
 use Rattle.std.proofs.lemmas.List.Sorted.{IsPermutation-cons, IsPermutation-map, IsPermutation-refl, IsPermutation-reverse, IsPermutation-trans, length_permutation, list_any-IsPermutation}
 use Rattle.std.proofs.lemmas.List.Sums.{fold-append}
 use Rattle.aa_table.specs.Contents.{value, SetsAll}
-use Rattle.aa_table.specs.SetContents.{set_capacity_for, with_element, HasElements, InsertsElements, SetHasRoom, SetView}
+use Rattle.aa_table.specs.SetContents.{set_capacity_for, set_resizes_for, with_element, HasElements, InsertsElements, SetHasRoom, SetView}
+use Rattle.aa_table.proofs.Extending.{more-room}
 use Rattle.aa_table.proofs.Elements.{member}
 
 or-false : (a : Bool) → a ≡ (a || false)
@@ -85,9 +86,19 @@ module _ {T : Type 0} (eq : T → T → Bool) where
       element-more fresh is more kept = by-test (is_member eq mid x) refl (λ t. more (is ∙ t)) (λ f. kept (is ∙ f))
 
     pub insert-element : {S : Type 0} (t u w : SetView T S) (xs : List T) (x : T) (fresh : Bool) → InsertsElements eq t xs u → fresh ≡ not (is_member eq u.elements x)
-        → (fresh ≡ true → IsPermutation (x ∷ u.elements) w.elements) → (fresh ≡ false → w ≡ u) → w.builder ≡ u.builder → InsertsElements eq t (xs ++ x ∷ []) w
-    insert-element t u w xs x fresh a is more kept b =
-        record { elements = element-more t.elements xs u.elements w.elements x a.elements fresh is more (λ f. ap (λ (s : SetView _ _). s.elements) (kept f)); builder = b ∙ a.builder }
+        → (fresh ≡ true → IsPermutation (x ∷ u.elements) w.elements) → (fresh ≡ true → w.capacity ≡ set_capacity_for u 1) → (fresh ≡ true → w.resizes ≡ set_resizes_for u 1)
+        → (fresh ≡ false → w ≡ u) → w.builder ≡ u.builder → InsertsElements eq t (xs ++ x ∷ []) w
+    insert-element t u w xs x fresh a is more made resized kept b =
+        let one : (u.capacity ≤ w.capacity) × (w.capacity ≡ u.capacity → w.resizes ≡ u.resizes) = elim (cases_Bool fresh) [
+          | inl h ↦ (omega (arith, made h, (more-room u.resizes u.capacity (length u.elements)).0), λ same. resized h ∙ (more-room u.resizes u.capacity (length u.elements)).1 (sym (made h) ∙ same))
+          | inr f ↦ (omega (arith, ap (λ (s : SetView _ _). s.capacity) (kept f)), λ _. ap (λ (s : SetView _ _). s.resizes) (kept f))
+        ] in
+        record {
+          elements = element-more t.elements xs u.elements w.elements x a.elements fresh is more (λ f. ap (λ (s : SetView _ _). s.elements) (kept f));
+          capacity = omega (arith, a.capacity, one.0);
+          resizes = λ same. one.1 (omega (arith, same, a.capacity, one.0)) ∙ a.resizes (omega (arith, same, a.capacity, one.0));
+          builder = b ∙ a.builder;
+        }
 
 -- if m elements fit, one fits and then fewer others; `fresh` tells whether it was new
 pub element-room : {T S : Type 0} (u w : SetView T S) (x : T) (m n : ℕ) (fresh : Bool) → n < m → SetHasRoom u m → (fresh ≡ true → IsPermutation (x ∷ u.elements) w.elements)
@@ -100,6 +111,16 @@ element-room u w x m n fresh fewer room more made kept = elim (cases_Bool fresh)
   | inr f ↦
       let same = kept f in
       omega (arith, fewer, room, ap (λ (s : SetView _ _). length s.elements) same, ap (λ (s : SetView _ _). s.capacity) same)
+]
+
+-- where one fits, its insertion leaves the blocks as they are
+pub element-steady : {T S : Type 0} (u w : SetView T S) (m n : ℕ) (fresh : Bool) → n < m → SetHasRoom u m → (fresh ≡ true → w.capacity ≡ set_capacity_for u 1)
+    → (fresh ≡ true → w.resizes ≡ set_resizes_for u 1) → (fresh ≡ false → w ≡ u) → (w.capacity ≡ u.capacity) × (w.resizes ≡ u.resizes)
+element-steady u w m n fresh fewer room made resized kept = elim (cases_Bool fresh) [
+  | inl t ↦
+      let one : nat_le 1 (u.capacity - length u.elements) ≡ true = grind (arith, nat_tests, fewer, room) in
+      (grind (arith, one, made t), grind (arith, one, resized t))
+  | inr f ↦ (ap (λ (s : SetView _ _). s.capacity) (kept f), ap (λ (s : SetView _ _). s.resizes) (kept f))
 ]
 
 -- the keys of a table of clones, and those of their source

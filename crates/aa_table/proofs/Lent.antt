@@ -47,6 +47,8 @@ use Rattle.aa_raw.specs.EntriesLends as block_lends
 use Rattle.aa_raw.specs.Places.{somes}
 use Rattle.aa_raw.specs.contracts.raw_vec.RawVec as block
 use Rattle.aa_raw.proofs.Rights.{Back, both_rights, closes_late}
+use Rattle.aa_raw.proofs.counter.Counter.TheLaws as counter_laws
+use Rattle.aa_raw.specs.contracts.counter.Counter as counter
 use Rattle.aa_table.proofs.Values.{read, same, stays}
 use Rattle.aa_table.proofs.index.HashIndex.TheLaws as index_laws
 use Rattle.aa_table.proofs.table.Table.TheLaws as table_laws
@@ -85,7 +87,7 @@ module _ (X Y S Z H : RattleType) (e : cmp.Ghosts X.Denot) (h : hash.Ghosts X.De
   of_row R = record { row = R; ty = lone R.mir }
 
   abbrev rest_ms : List Member
-  rest_ms = of_row (param 2 S) ∷ of_row usize ∷ of_row usize ∷ []
+  rest_ms = of_row (param 2 S) ∷ of_row usize ∷ of_row usize ∷ of_row counter.the_row ∷ []
 
   abbrev pub ms : List Member
   ms = of_row Bk ∷ of_row Ix ∷ rest_ms
@@ -102,14 +104,14 @@ module _ (X Y S Z H : RattleType) (e : cmp.Ghosts X.Denot) (h : hash.Ghosts X.De
 
   -- the table `d` with the values of `u`
   abbrev pub following : D → D → D
-  following d u = record { entries = with_values_of d.entries u.entries; capacity = d.capacity; builder = d.builder }
+  following d u = record d { entries = with_values_of d.entries u.entries }
 
   -- a table that has the values of `d` but for those of its value
   abbrev pub Followed : D → SemTy
   Followed d = record { rep = D; coded = Tb.coded; size = 0; own_at = λ u bl o. (mem Tb).own_at (following d u) bl o }
 
   itself : (d : D) → following d d ≡ d
-  itself d = ap (λ es. record { entries = es; capacity = d.capacity; builder = d.builder }) (same d.entries)
+  itself d = ap (λ es. record d { entries = es }) (same d.entries)
 
   module _ (LX : Laws X) (LY : Laws Y) (LS : Laws S) (LZ : Laws Z) {M : Type 1} {𝓤 : Ura M} (𝓛 : Logic 𝓤) (rb ro : ℕ) where
     open 𝓛 use {A as tokens}
@@ -122,7 +124,7 @@ module _ (X Y S Z H : RattleType) (e : cmp.Ghosts X.Denot) (h : hash.Ghosts X.De
       Index = part_at Ix full_share a.index rb (ro + index_at)
 
       abbrev pub Others : Fml
-      Others = parts_at full_share rest_ms (index_at + size (lone Ix.mir)) (a.builder, (a.count, (a.capacity, tt))) rb ro
+      Others = parts_at full_share rest_ms (index_at + size (lone Ix.mir)) (a.builder, (a.count, (a.capacity, (a.resizes, tt)))) rb ro
 
       abbrev pub Gaps : SProp 𝓤
       Gaps = PartsBack 𝓛 full_share [] ms rb ro
@@ -131,9 +133,9 @@ module _ (X Y S Z H : RattleType) (e : cmp.Ghosts X.Denot) (h : hash.Ghosts X.De
       unfolding part_of
       takes_apart = field_out 𝓛 full_share [] ms (
         (block_laws.the_row_laws (Entry K V) A g (tuple_laws (K ∷ V ∷ []) (param_laws 0 X LX, (param_laws 1 Y LY, tt))) (param_laws 3 Z LZ)).lawful 𝓛,
-        (the_index_laws.lawful 𝓛, ((param_laws 2 S LS).lawful 𝓛, (uint_Lawful 𝓛 w64, (uint_Lawful 𝓛 w64, tt)))),
+        (the_index_laws.lawful 𝓛, ((param_laws 2 S LS).lawful 𝓛, (uint_Lawful 𝓛 w64, (uint_Lawful 𝓛 w64, (counter_laws.the_row_laws.lawful 𝓛, tt))))),
       )
-          (a.places, (a.index, (a.builder, (a.count, (a.capacity, tt))))) rb ro 0
+          (a.places, (a.index, (a.builder, (a.count, (a.capacity, (a.resizes, tt)))))) rb ro 0
 
       -- the table with these values in its places
       module _ (d : D) (seen : Viewed d a) where
@@ -141,11 +143,11 @@ module _ (X Y S Z H : RattleType) (e : cmp.Ghosts X.Denot) (h : hash.Ghosts X.De
         written ws = with_places a.places (with_values a.places.places ws)
 
         abbrev pub next : List Y.Denot → D
-        next ws = record { entries = somes (with_values a.places.places ws); capacity = a.capacity; builder = a.builder }
+        next ws = record { entries = somes (with_values a.places.places ws); capacity = a.capacity; resizes = a.resizes.count; builder = a.builder }
 
         fixed : (ws : List Y.Denot) → following d (next ws) ≡ next ws
-        fixed ws = ap (λ (z : D). record { entries = with_values_of z.entries (next ws).entries; capacity = z.capacity; builder = z.builder }) (sym seen.0)
-            ∙ ap (λ es. record { entries = es; capacity = a.capacity; builder = a.builder }) (read a.places.places ws)
+        fixed ws = ap (λ (z : D). record z { entries = with_values_of z.entries (next ws).entries }) (sym seen.0)
+            ∙ ap (λ es. record { entries = es; capacity = a.capacity; resizes = a.resizes.count; builder = a.builder }) (read a.places.places ws)
 
         abbrev pub Whole : SemTy
         Whole = Followed d
@@ -153,9 +155,9 @@ module _ (X Y S Z H : RattleType) (e : cmp.Ghosts X.Denot) (h : hash.Ghosts X.De
         returns_whole : (ws : List Y.Denot) → ent 𝓤 (sep 𝓤 (sem 𝓛 (part_at Bk full_share (written ws) rb (ro + block_at))) (sep 𝓤 (sem 𝓛 (fsep Index Others)) Gaps)) (sem 𝓛 (Whole.own_at (next ws) rb ro))
         unfolding part_of
         returns_whole ws =
-            let n : In.Denot = record { places = written ws; index = a.index; builder = a.builder; count = a.count; capacity = a.capacity } in
+            let n : In.Denot = record { places = written ws; index = a.index; builder = a.builder; count = a.count; capacity = a.capacity; resizes = a.resizes } in
             qed 𝓛 (‵ (part_at Bk full_share (written ws) rb (ro + block_at)) ∷ ‵ (fsep Index Others) ∷ raw Gaps ∷ []) ∵
-            use3 𝓛 (‵ (part_at In full_share n rb ro)) (field_back 𝓛 full_share [] ms (written ws, (a.index, (a.builder, (a.count, (a.capacity, tt))))) rb ro 0) $
+            use3 𝓛 (‵ (part_at In full_share n rb ro)) (field_back 𝓛 full_share [] ms (written ws, (a.index, (a.builder, (a.count, (a.capacity, (a.resizes, tt)))))) rb ro 0) $
             use1 𝓛 (‵ ((mem Tb).own_at (next ws) rb ro)) (Plain-in Tb In (table_laws.the_opens K V (param 2 S) A (param 4 H) e h b w g) 𝓛 full_share (next ws) n
             (view_made In D Tb.coded (view X.Denot Y.Denot S.Denot Z.Denot H.Denot e h b w g) (invariant X.Denot Y.Denot S.Denot Z.Denot H.Denot e h b w g) 𝓛 (next ws) n (refl, stays e.eq _ a.places a.index a.count a.capacity ws seen.1)) rb ro) $
             rewrite ! 0 (λ (u : D). ‵ ((mem Tb).own_at u rb ro)) (sym (fixed ws)) refl $ done !

@@ -231,9 +231,9 @@ module _ {K V A : Type 0} (eq : K → K → Bool) (h : K → ℕ) where
 
 -- the key that passes has another value
 abbrev pub put : {K V S : Type 0} → (K → Bool) → V → TableView K V S → TableView K V S
-put test v f = record { entries = set_value test f.entries v; capacity = f.capacity; builder = f.builder }
+put test v f = record f { entries = set_value test f.entries v }
 
 -- a table with a value written through a mutable borrow
 pub written-filled : {K V S : Type 0} (test : K → Bool) (cs : List (Option (K × V))) (s : ℕ) (e : K × V) (v : V) → get_or cs s None ≡ Some e → test e.0 ≡ true → keys_with test (somes cs) ≤ 1
-    → {b : S} {room : ℕ} {f : TableView K V S} → view_of b cs room ≡ f → view_of b (set cs s (Some (e.0, v))) room ≡ put test v f
-written-filled test cs s e v at here once {b} {room} seen = ap (λ xs. record { entries = xs; capacity = room; builder = b }) (value-written test cs s e v at here once) ∙ ap (put test v) seen
+    → {b : S} {room resizes : ℕ} {f : TableView K V S} → view_of b cs room resizes ≡ f → view_of b (set cs s (Some (e.0, v))) room resizes ≡ put test v f
+written-filled test cs s e v at here once {b} {room} {resizes} seen = ap (λ xs. record { entries = xs; capacity = room; resizes = resizes; builder = b }) (value-written test cs s e v at here once) ∙ ap (put test v) seen

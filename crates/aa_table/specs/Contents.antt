@@ -7,15 +7,25 @@ use Rattle.allocator_api2.specs.Growth.{amortized}
 use Rattle.allocator_api2.specs.declared.raw_vec.Growth.TheVariants.{Doubling}
 
 -- the view of a table: its entries in the order of `iter`, the number of keys that it can hold
--- without another allocation, and the builder of its hashers
+-- without another allocation, the number of times that it moved to new blocks, and the builder of
+-- its hashers
 pub record TableView (K V S : Type 0) : Type 0 where
   pub entries : List (K × V)
   pub capacity : ℕ
+  pub resizes : ℕ  -- each time to three: of the entries, of the tags and of the overflow bytes
   pub builder : S
 
 -- the number of entries of `es` whose key passes the test
 abbrev pub keys_with : {K V : Type 0} → (K → Bool) → List (K × V) → ℕ
 keys_with {K} {V} test es = count_by (λ (e : K × V). test e.0) es
+
+-- the capacity of a new table for `n` keys
+abbrev pub fresh_capacity : (n : ℕ) → ℕ
+fresh_capacity n = if n == 0 then 0 else max n 14
+
+-- the number of resizes of a new table for `n` keys
+abbrev pub fresh_resizes : (n : ℕ) → ℕ
+fresh_resizes n = if n == 0 then 0 else 1
 
 module _ {K V : Type 0} (eq : K → K → Bool) where
   -- the value of the key `k` in the entries `es`
@@ -48,20 +58,25 @@ module _ {K V : Type 0} (eq : K → K → Bool) where
   abbrev pub IsMap : List (K × V) → Type 0
   IsMap es = (k : K) → keys_like k es ≤ 1
 
-  -- the table `u` has the entries of `t` after each pair of `xs` was inserted in turn, and the
-  -- builder of `t`
+  -- the table `u` has the entries of `t` after each pair of `xs` was inserted in turn, the builder of
+  -- `t`, no less capacity, and as many resizes if it has no more capacity
   pub record InsertsAll {S : Type 0} (t : TableView K V S) (xs : List (K × V))
       (u : TableView K V S) : Type 0 where
     pub entries : SetsAll t.entries xs u.entries
+    pub capacity : t.capacity ≤ u.capacity
+    pub resizes : u.capacity ≡ t.capacity → u.resizes ≡ t.resizes
     pub builder : u.builder ≡ t.builder
 
-  -- the table `u` has clones of the entries of `t`, inserted in turn, and a clone of its builder,
-  -- where `C`, `D` and `B` relate a key, a value and a builder to its clone
+  -- the table `u` has clones of the entries of `t`, inserted in turn, the blocks of a new table for
+  -- as many, and a clone of its builder, where `C`, `D` and `B` relate a key, a value and a builder
+  -- to its clone
   pub record IsCopy {S : Type 0} (C : K → K → Type 0) (D : V → V → Type 0) (B : S → S → Type 0)
       (t u : TableView K V S) : Type 0 where
     pub clones : List (K × V)
     pub each : AllZip (λ e f. C e.0 f.0 × D e.1 f.1) t.entries clones
     pub entries : SetsAll [] clones u.entries
+    pub capacity : u.capacity ≡ fresh_capacity (length t.entries)
+    pub resizes : u.resizes ≡ fresh_resizes (length t.entries)
     pub builder : B t.builder u.builder
 
   -- the entries `es` and `fs` have values that are equal by `like`, or none, for the key `k`
@@ -77,14 +92,19 @@ module _ {K V : Type 0} (eq : K → K → Bool) where
 abbrev pub max_keys : ℕ
 max_keys = 2_000_000_000
 
--- an empty table with the builder `b`, and no capacity
+-- an empty table with the builder `b`, which has not allocated
 abbrev pub empty : {K V S : Type 0} → S → TableView K V S
-empty b = record { entries = []; capacity = 0; builder = b }
+empty b = record { entries = []; capacity = 0; resizes = 0; builder = b }
 
 -- the capacity of a table with `n` keys and the capacity `c` after it reserved `k` new keys: `c` if
 -- it is sufficient, else the greatest of twice `c`, the number of keys with `k` more, and 14
 abbrev pub reserved_capacity : (c n k : ℕ) → ℕ
 reserved_capacity c n k = if nat_le k (c - n) then c else amortized Doubling c (n + k) 14
+
+-- the number of resizes of a table with `n` keys and the capacity `c` after it reserved `k` new
+-- keys: the old number `r` if the capacity is sufficient, else one more
+abbrev pub reserved_resizes : (r c n k : ℕ) → ℕ
+reserved_resizes r c n k = if nat_le k (c - n) then r else r + 1
 
 module _ {K V S : Type 0} where
   -- the table `f` has spare capacity for `k` new keys
@@ -95,9 +115,9 @@ module _ {K V S : Type 0} where
   abbrev pub capacity_for : TableView K V S → (k : ℕ) → ℕ
   capacity_for f k = reserved_capacity f.capacity (length f.entries) k
 
--- the capacity of a new table for `n` keys
-abbrev pub fresh_capacity : (n : ℕ) → ℕ
-fresh_capacity n = if n == 0 then 0 else max n 14
+  -- the number of resizes of the table `f` after it reserved `k` new keys
+  abbrev pub resizes_for : TableView K V S → (k : ℕ) → ℕ
+  resizes_for f k = reserved_resizes f.resizes f.capacity (length f.entries) k
 
 -- the capacity to which a table with `n` keys shrinks if it is to keep capacity for `least` keys
 abbrev pub shrunk_capacity : (n least : ℕ) → ℕ

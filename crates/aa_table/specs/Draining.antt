@@ -23,6 +23,7 @@ module _ {K V S A H : Type 0} where
       (e : Drain K V S A H) : Type 0 where
     pub lender : drain_lender e ≡ drain_lender d
     pub capacity : (drain_table e).capacity ≡ (drain_table d).capacity
+    pub resizes : (drain_table e).resizes ≡ (drain_table d).resizes
     pub builder : (drain_table e).builder ≡ (drain_table d).builder
     pub entries : MatchOption r ((drain_remaining d ≡ []) × (drain_remaining e ≡ []))
         (λ x. IsPermutation (drain_remaining d) (x ∷ drain_remaining e))

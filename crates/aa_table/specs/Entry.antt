@@ -15,8 +15,7 @@ pub use Rattle.aa_table.specs.declared.table.entry.Entry.TheVariants.{Occupied, 
 module _ {K V S : Type 0} (eq : K → K → Bool) where
   -- the table `t` with the value `v` in the entry of the key `k`, if it has one
   abbrev pub with_value : TableView K V S → K → V → TableView K V S
-  with_value t k v =
-      record { entries = set_value (eq k) t.entries v; capacity = t.capacity; builder = t.builder }
+  with_value t k v = record t { entries = set_value (eq k) t.entries v }
 
   -- the table `u` is `t` with the value `v` for the key `k`: each other key has its own, an entry of
   -- an equal key keeps its key and its place, and a new entry may change the order of the others

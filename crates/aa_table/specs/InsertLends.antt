@@ -4,7 +4,7 @@ use Rattle.std.specs.Borrow.{Fml, RattleType, MutBor, LendsSoOk}
 use Rattle.std.specs.declared.alloc.Allocator as alloc
 use Rattle.std.specs.declared.hash.Hasher as hasher
 use Rattle.std.specs.declared.hash.BuildHasher as builder
-use Rattle.aa_table.specs.Contents.{capacity_for, TableView}
+use Rattle.aa_table.specs.Contents.{capacity_for, resizes_for, TableView}
 use Rattle.aa_table.specs.Lends.{OfKeys}
 use Rattle.aa_table.specs.contracts.table.Table.{the_row}
 
@@ -13,6 +13,7 @@ pub record Adds {K V S : Type 0} (t : TableView K V S) (k : K) (v : V) (u : Tabl
     : Type 0 where
   pub entries : IsPermutation ((k, v) ∷ t.entries) u.entries
   pub capacity : u.capacity ≡ capacity_for t 1
+  pub resizes : u.resizes ≡ resizes_for t 1
   pub builder : u.builder ≡ t.builder
 
 -- the final state of the table `t`: it has `k` too, with the last value written through `r`, or it

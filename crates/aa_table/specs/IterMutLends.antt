@@ -23,8 +23,4 @@ abbrev pub lends_values : (K V S A H : RattleType) (g : OfKeys K.Denot)
 lends_values K V S A H g b w a t n =
     let T = the_row K V S A H (record { eq = g.eq }) (record { hash_input = g.hash_input }) b w a in
     follows T T t.ghost_name n
-    (λ u. record {
-      entries = with_values_of t.now.entries u.entries;
-      capacity = t.now.capacity;
-      builder = t.now.builder;
-    })
+    (λ u. record t.now { entries = with_values_of t.now.entries u.entries })

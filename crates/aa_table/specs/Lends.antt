@@ -21,11 +21,7 @@ abbrev pub lends_value : (K V S A H : RattleType) (g : OfKeys K.Denot)
 lends_value K V S A H g b w a t test r =
     LendsIf (the_row K V S A H (record { eq = g.eq }) (record { hash_input = g.hash_input }) b w a)
     V t r
-    (λ x. record {
-      entries = set_value test t.now.entries x;
-      capacity = t.now.capacity;
-      builder = t.now.builder;
-    }) t.now
+    (λ x. record t.now { entries = set_value test t.now.entries x }) t.now
 
 -- the final state of the table `t`: `k`, which is present, has the last value written through `r`
 abbrev pub lends_there : (K V S A H : RattleType) (g : OfKeys K.Denot)
@@ -33,9 +29,4 @@ abbrev pub lends_there : (K V S A H : RattleType) (g : OfKeys K.Denot)
     → MutBor (TableView K.Denot V.Denot S.Denot) → K.Denot → MutBor V.Denot → Fml
 lends_there K V S A H g b w a t key r =
     Lends (the_row K V S A H (record { eq = g.eq }) (record { hash_input = g.hash_input }) b w a)
-    V t r
-    (λ x. record {
-      entries = set_value (g.eq key) t.now.entries x;
-      capacity = t.now.capacity;
-      builder = t.now.builder;
-    })
+    V t r (λ x. record t.now { entries = set_value (g.eq key) t.now.entries x })

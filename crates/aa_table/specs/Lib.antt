@@ -1,5 +1,6 @@
 pub mod Slots
 pub mod Contents
+pub mod Shrinking
 pub mod Places
 pub mod Remaining
 pub mod Inside

@@ -10,6 +10,7 @@ pub record Removes {K V S : Type 0} (eq : K → K → Bool) (t : TableView K V S
   pub sets : Sets eq t.entries k None u.entries
   pub entries : u.entries ≡ remove_entry (eq k) t.entries
   pub capacity : u.capacity ≡ t.capacity
+  pub resizes : u.resizes ≡ t.resizes
   pub builder : u.builder ≡ t.builder
   pub one_less : length u.entries + 1 ≡ length t.entries
   pub room : HasRoom u 1

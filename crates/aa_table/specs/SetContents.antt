@@ -2,19 +2,26 @@
 use Rattle.std.specs.Prelude.{◌≡◌, ℕ, ◌-◌, ◌≤◌, ◌&&◌, Bool, List, [], ◌∷◌, map, length, count_by, if◌then◌else◌, IsPermutation}
 use Rattle.std.specs.List.{fold, list_all, AllZip}
 use Rattle.std.specs.Set.{is_member, IsUnion}
-use Rattle.aa_table.specs.Contents.{reserved_capacity, TableView}
+use Rattle.aa_table.specs.Contents.{fresh_capacity, fresh_resizes, reserved_capacity, reserved_resizes, TableView}
 
 -- the view of a set: its elements in the order of `iter`, the number of elements that it can hold
--- without another allocation, and the builder of its hashers
+-- without another allocation, the number of times that it moved to new blocks, and the builder of
+-- its hashers
 pub record SetView (T S : Type 0) : Type 0 where
   pub elements : List T
   pub capacity : ℕ
+  pub resizes : ℕ  -- each time to three: of the elements, of the tags and of the overflow bytes
   pub builder : S
 
 -- the set of the keys of the table `t`
 abbrev pub set_of : {T V S : Type 0} → TableView T V S → SetView T S
 set_of t =
-    record { elements = map (λ e. e.0) t.entries; capacity = t.capacity; builder = t.builder }
+    record {
+      elements = map (λ e. e.0) t.entries;
+      capacity = t.capacity;
+      resizes = t.resizes;
+      builder = t.builder;
+    }
 
 -- no two of the elements `xs` are equal
 abbrev pub AreDistinct : {T : Type 0} → (T → T → Bool) → List T → Type 0
@@ -33,9 +40,13 @@ module _ {T S : Type 0} where
   abbrev pub set_capacity_for : SetView T S → (k : ℕ) → ℕ
   set_capacity_for s k = reserved_capacity s.capacity (length s.elements) k
 
--- an empty set with the builder `b`, and no capacity
+  -- the number of resizes of the set `s` after it reserved `k` new elements
+  abbrev pub set_resizes_for : SetView T S → (k : ℕ) → ℕ
+  set_resizes_for s k = reserved_resizes s.resizes s.capacity (length s.elements) k
+
+-- an empty set with the builder `b`, which has not allocated
 abbrev pub no_elements : {T S : Type 0} → S → SetView T S
-no_elements b = record { elements = []; capacity = 0; builder = b }
+no_elements b = record { elements = []; capacity = 0; resizes = 0; builder = b }
 
 module _ {T : Type 0} (eq : T → T → Bool) where
   -- the elements `xs` after `x` was inserted, if none of them is equal to it
@@ -47,17 +58,23 @@ module _ {T : Type 0} (eq : T → T → Bool) where
     pub elements : IsPermutation (fold with_element es xs) new
     pub members : IsUnion eq es xs new
 
-  -- the set `u` has the elements of `s` after each of `xs` was inserted in turn, and its builder
+  -- the set `u` has the elements of `s` after each of `xs` was inserted in turn, the builder of `s`,
+  -- no less capacity, and as many resizes if it has no more capacity
   pub record InsertsElements {S : Type 0} (s : SetView T S) (xs : List T) (u : SetView T S)
       : Type 0 where
     pub elements : HasElements s.elements xs u.elements
+    pub capacity : s.capacity ≤ u.capacity
+    pub resizes : u.capacity ≡ s.capacity → u.resizes ≡ s.resizes
     pub builder : u.builder ≡ s.builder
 
-  -- the set `u` has clones of the elements of `s`, where equal clones are one, and a clone of its
-  -- builder, where `C` and `B` relate an element and a builder to its clone
+  -- the set `u` has clones of the elements of `s`, where equal clones are one, the blocks of a new set
+  -- for as many, and a clone of its builder, where `C` and `B` relate an element and a builder to
+  -- its clone
   pub record IsSetCopy {S : Type 0} (C : T → T → Type 0) (B : S → S → Type 0) (s u : SetView T S)
       : Type 0 where
     pub clones : List T
     pub each : AllZip C s.elements clones
     pub elements : IsUnion eq [] clones u.elements
+    pub capacity : u.capacity ≡ fresh_capacity (length s.elements)
+    pub resizes : u.resizes ≡ fresh_resizes (length s.elements)
     pub builder : B s.builder u.builder

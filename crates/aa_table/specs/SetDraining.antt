@@ -22,6 +22,7 @@ module _ {T S A H : Type 0} where
   pub record DrainsElement (d : Drain T S A H) (r : Option T) (e : Drain T S A H) : Type 0 where
     pub lender : drain_lender e ≡ drain_lender d
     pub capacity : (drain_set e).capacity ≡ (drain_set d).capacity
+    pub resizes : (drain_set e).resizes ≡ (drain_set d).resizes
     pub builder : (drain_set e).builder ≡ (drain_set d).builder
     pub elements : MatchOption r ((drain_remaining d ≡ []) × (drain_remaining e ≡ []))
         (λ x. IsPermutation (drain_remaining d) (x ∷ drain_remaining e))

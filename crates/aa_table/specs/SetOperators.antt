@@ -4,7 +4,7 @@ use Rattle.std.specs.List.{AllZip}
 use Rattle.std.specs.Set.{is_member}
 use Rattle.allocator_api2.specs.Errors.{IsErrorFor}
 use Rattle.allocator_api2.specs.declared.collections.TryReserveError.{TryReserveError}
-use Rattle.aa_table.specs.Contents.{fresh_capacity}
+use Rattle.aa_table.specs.Contents.{fresh_capacity, fresh_resizes}
 use Rattle.aa_table.specs.SetContents.{HasElements, InsertsElements, SetView}
 use Rattle.aa_table.specs.declared.set.operators.Part.{Part}
 use Rattle.aa_table.specs.declared.set.operators.Part.TheVariants.{All, Common, Own, Nothing}
@@ -23,21 +23,23 @@ module _ {T : Type 0} (eq : T → T → Bool) where
 
   module _ (C : T → T → Type 0) {S : Type 0} where
     -- the set `u` has the elements of `s` after a clone of each of `xs` was inserted in turn, and its
-    -- capacity and builder; `C` relates an element to its clone
+    -- blocks, capacity and builder; `C` relates an element to its clone
     pub record InsertsClones (s : SetView T S) (xs : List T) (u : SetView T S) : Type 0 where
       pub clones : List T
       pub each : AllZip C xs clones
       pub inserted : InsertsElements eq s clones u
       pub capacity : u.capacity ≡ s.capacity
+      pub resizes : u.resizes ≡ s.resizes
 
     module _ (D : S → Type 0) (xs : List T) where
-      -- the set `s` has a clone of each of `xs`, where equal clones are one, the capacity of a new
-      -- set for as many, and a builder with `D`
+      -- the set `s` has a clone of each of `xs`, where equal clones are one, the blocks of a new set
+      -- for as many, and a builder with `D`
       pub record IsSetOfClones (s : SetView T S) : Type 0 where
         pub clones : List T
         pub each : AllZip C xs clones
         pub elements : HasElements eq [] clones s.elements
         pub capacity : s.capacity ≡ fresh_capacity (length xs)
+        pub resizes : s.resizes ≡ fresh_resizes (length xs)
         pub builder : D s.builder
 
       -- `r` is such a set, or an error for the capacity of a new set for as many elements

@@ -15,7 +15,7 @@ impl<K: Eq + Hash + Drop, V: Drop, S: BuildHasher, A: Allocator + Clone> Table<K
     /// Inserts the items of `iter`, each a key with its value; `iter` must end.
     ///
     /// The last of equal keys sets the value. Inserts each item as `insert` does, and allocates
-    /// only if the table is full then.
+    /// only if the table is full then. Does not allocate if there is capacity for all of them.
     ///
     /// # Errors
     /// The errors of `insert`. The table keeps the items before the one that could not be inserted,
@@ -30,6 +30,9 @@ impl<K: Eq + Hash + Drop, V: Drop, S: BuildHasher, A: Allocator + Clone> Table<K
             (λ p. InsertsAll K.eq self.old p.items self.new)) }
         ensures fits { ((it : U.IntoIter) → U.into_iter_gives iter it
             → HasRoom self.old (size (U.IntoIter.remaining it))) → IsOk result }
+        ensures steady { ((it : U.IntoIter) → U.into_iter_gives iter it
+            → HasRoom self.old (size (U.IntoIter.remaining it)))
+            → (self.new.capacity ≡ self.old.capacity) × (self.new.resizes ≡ self.old.resizes) }
         ensures error { IfErr result (LacksRoom self.new.capacity (length self.new.entries) 1
             (capacity_for self.new 1)) }
     {
@@ -94,6 +97,9 @@ impl<K: Eq + Hash + Drop, V: Drop, S: BuildHasher, A: Allocator + Clone> Extend<
             (InsertsAll K.eq) iter self.old self.new result }
         ensures fits { ((it : U.IntoIter) → U.into_iter_gives iter it
             → HasRoom self.old (size (U.IntoIter.remaining it))) → IsOk result }
+        ensures steady { ((it : U.IntoIter) → U.into_iter_gives iter it
+            → HasRoom self.old (size (U.IntoIter.remaining it)))
+            → (self.new.capacity ≡ self.old.capacity) × (self.new.resizes ≡ self.old.resizes) }
     {
         match Table::extend(self, iter) {
             Ok(()) => Ok(()),

@@ -5,6 +5,7 @@ ghost use Rattle.allocator_api2.specs.Errors.{IsErrorFor};
 ghost use Rattle.allocator_api2.specs.Places.{somes};
 ghost use Rattle.allocator_api2.specs.declared.collections.TryReserveErrorKind.TheVariants.{AllocError};
 ghost use Rattle.aa_table.specs.Contents.{fresh_capacity};
+ghost use Rattle.aa_table.specs.Shrinking.{CountsShrink};
 ghost use Rattle.aa_table.specs.Slots.{tag_at, HasPlaces, IsIndex, IsMemory, IsSlotCount, IsSlots};
 ghost use Rattle.aa_table.specs.Places.{hashes, hashes_of, tags_of, AreFree, AreHeld, AreHeldBetween, IsIndexed};
 ghost use Rattle.aa_table.specs.Walks.{AreGroups};
@@ -13,6 +14,7 @@ use crate::index::{HashIndex, hash_of, put_new, tags_in};
 use crate::slots::{GROUP_SIZE, Overflow, is_free};
 use crate::walk::taken_in;
 use allocator_api2::collections::{TryReserveError, TryReserveErrorKind};
+use allocator_api2::counter::Counter;
 use allocator_api2::raw_vec::RawVec;
 use allocator_api2::vec::Vec;
 use std::alloc::Allocator;
@@ -224,11 +226,12 @@ fn move_indexed<K: Eq + Hash, V, S: BuildHasher, A: Allocator>(
 
 /// Moves all entries to a new index and new places with capacity for `capacity` keys.
 ///
-/// Allocates these before it moves an entry, and then frees the old ones.
+/// Allocates these before it moves an entry, and then frees the old ones. Counts this as one of
+/// `resizes`.
 ///
 /// # Errors
 /// `CapacityOverflow` if the bytes exceed `isize::MAX`; `AllocError` with the number `capacity` if
-/// an allocation fails. Index and places are unchanged.
+/// an allocation fails. Index, places and count are unchanged.
 #[cold]
 #[inline(never)]
 pub fn resize<K: Eq + Hash, V, S: BuildHasher, A: Allocator + Clone>(
@@ -236,6 +239,7 @@ pub fn resize<K: Eq + Hash, V, S: BuildHasher, A: Allocator + Clone>(
     places: &mut RawVec<(K, V), A>,
     index: &mut Option<HashIndex<A>>,
     capacity: usize,
+    resizes: &mut Counter,
 ) -> Result<(), TryReserveError>
     // The capacity is sufficient for the entries, and their index is complete.
     requires more { length (somes places.old.places) ≤ capacity }
@@ -254,17 +258,20 @@ pub fn resize<K: Eq + Hash, V, S: BuildHasher, A: Allocator + Clone>(
     ensures slots { OnOk result (IsSlotCount capacity (length (tags_of index.new))) }
     ensures places { OnOk result
         (HasPlaces (length (tags_of index.new)) (length places.new.places)) }
+    ensures counted { OnOk result (resizes.new.count ≡ resizes.old.count + 1) }
 
-    // An error has the requested capacity, and leaves both unchanged.
+    // An error has the requested capacity, and leaves all unchanged.
     ensures error { IfErr result (λ e. IsErrorFor e capacity) }
     ensures unchanged { OnErr result (places.new ≡ places.old) }
     ensures kept { OnErr result (index.new ≡ index.old) }
+    ensures count { OnErr result (resizes.new.count ≡ resizes.old.count) }
 {
     let mut fresh = index_for(places.allocator(), capacity)?;
     let mut room = places_for(places.allocator(), fresh.tags.len(), capacity)?;
     move_indexed(builder, index, places, &mut fresh, &mut room);
     *places = room;
     *index = Some(fresh);
+    resizes.add(1);
     Ok(())
 }
 
@@ -285,15 +292,17 @@ fn free_blocks<K, V, A: Allocator>(places: &mut RawVec<(K, V), A>, index: &mut O
 
 /// Shrinks index and places to those of a new table with this capacity.
 ///
-/// For the capacity 0, frees all blocks. Allocates only if the number of slots has to change.
+/// For the capacity 0, frees all blocks. Allocates only if the number of slots has to change, and
+/// counts this as one of `resizes`.
 ///
 /// # Errors
-/// `AllocError` with the number `capacity`. Index and places are unchanged.
+/// `AllocError` with the number `capacity`. Index, places and count are unchanged.
 pub fn fit<K: Eq + Hash, V, S: BuildHasher, A: Allocator + Clone>(
     builder: &S,
     places: &mut RawVec<(K, V), A>,
     index: &mut Option<HashIndex<A>>,
     capacity: usize,
+    resizes: &mut Counter,
 ) -> Result<(), TryReserveError>
     // The capacity is sufficient for the entries, and their index is complete.
     requires more { length (somes places.old.places) ≤ capacity }
@@ -312,12 +321,16 @@ pub fn fit<K: Eq + Hash, V, S: BuildHasher, A: Allocator + Clone>(
     ensures room { OnOk result (capacity ≡ 0 ⊎ capacity < length (tags_of index.new)) }
     ensures memory { OnOk result
         (IsMemory capacity (length (tags_of index.new)) (length places.new.places)) }
+    ensures counted { OnOk result
+        (CountsShrink (IsSlotCount capacity (length (tags_of index.old))) capacity
+        resizes.old.count resizes.new.count) }
 
-    // An error has the requested capacity, and leaves both unchanged.
+    // An error has the requested capacity, and leaves all unchanged.
     ensures some { OnErr result (0 < capacity) }
     ensures error { IfErr result (λ e. e.kind ≡ AllocError capacity) }
     ensures unchanged { OnErr result (places.new ≡ places.old) }
     ensures kept { OnErr result (index.new ≡ index.old) }
+    ensures count { OnErr result (resizes.new.count ≡ resizes.old.count) }
 {
     if capacity == 0 {
         free_blocks(places, index);
@@ -326,7 +339,7 @@ pub fn fit<K: Eq + Hash, V, S: BuildHasher, A: Allocator + Clone>(
     if tags_in(index).len() == slots_for(capacity) {
         return Ok(());
     }
-    match resize(builder, places, index, capacity) {
+    match resize(builder, places, index, capacity, resizes) {
         Ok(()) => Ok(()),
         Err(_) => Err(alloc_error(capacity)),
     }

@@ -6,8 +6,9 @@ ghost use Rattle.std.specs.List.Retain.{IsFiltered};
 ghost use Rattle.std.specs.Set.{is_member, remove_key, swap_key};
 ghost use Rattle.allocator_api2.specs.declared.collections.TryReserveErrorKind.TheVariants.{AllocError, CapacityOverflow};
 ghost use Rattle.aa_table.specs.Full.{LacksRoom};
-ghost use Rattle.aa_table.specs.Contents.{fresh_capacity, shrunk_capacity, max_keys};
-ghost use Rattle.aa_table.specs.SetContents.{set_capacity_for, AreDistinct, SetHasRoom};
+ghost use Rattle.aa_table.specs.Contents.{fresh_capacity, fresh_resizes, shrunk_capacity, max_keys};
+ghost use Rattle.aa_table.specs.SetContents.{no_elements, set_capacity_for, set_resizes_for, AreDistinct, SetHasRoom};
+ghost use Rattle.aa_table.specs.Shrinking.{CountsShrink, SameSlots};
 
 use crate::into_parts::IntoKeys;
 use crate::iter::Keys;
@@ -27,7 +28,8 @@ mod traits;
 
 /// A hash set over any allocator that can be cloned.
 ///
-/// A contract sees a set as its elements, its capacity and the builder of its hashers.
+/// A contract sees a set as its elements, its capacity, the number of times that it moved to new
+/// blocks, and the builder of its hashers.
 #[derive(Drop)]
 pub struct Set<
     T: Eq + Hash,
@@ -52,6 +54,7 @@ impl<T: Eq + Hash + Drop, A: Allocator + Clone> Set<T, BuildHasherDefault<FoldHa
     pub fn new_in(alloc: A) -> Self
         ensures elements { result.elements ≡ [] }
         ensures capacity { result.capacity ≡ 0 }
+        ensures resizes { result.resizes ≡ 0 }
     {
         Set {
             table: Table::new_in(alloc),
@@ -69,6 +72,7 @@ impl<T: Eq + Hash + Drop, A: Allocator + Clone> Set<T, BuildHasherDefault<FoldHa
     pub fn with_capacity_in(capacity: usize, alloc: A) -> Result<Self, TryReserveError>
         ensures elements { IfOk result (λ s. s.elements ≡ []) }
         ensures made { IfOk result (λ s. s.capacity ≡ fresh_capacity capacity) }
+        ensures resizes { IfOk result (λ s. s.resizes ≡ fresh_resizes capacity) }
         ensures error { IfErr result (LacksRoom 0 0 capacity (max capacity 14)) }
     {
         match Table::with_capacity_in(capacity, alloc) {
@@ -83,7 +87,7 @@ impl<T: Eq + Hash + Drop, S: BuildHasher, A: Allocator + Clone> Set<T, S, A> {
     ///
     /// Does not allocate.
     pub fn with_hasher_in(builder: S, alloc: A) -> Self
-        ensures { result ≡ record { elements = []; capacity = 0; builder = builder } }
+        ensures { result ≡ no_elements builder }
     {
         Set {
             table: Table::with_hasher_in(builder, alloc),
@@ -166,6 +170,8 @@ impl<T: Eq + Hash + Drop, S: BuildHasher, A: Allocator + Clone> Set<T, S, A> {
             IsPermutation (value ∷ self.old.elements) self.new.elements) }
         ensures made { IfOk result (λ new. new ≡ true →
             self.new.capacity ≡ set_capacity_for self.old 1) }
+        ensures resized { IfOk result (λ new. new ≡ true →
+            self.new.resizes ≡ set_resizes_for self.old 1) }
 
         // If it is not new, nothing changes. The builder never does.
         ensures kept { IfOk result (λ new. new ≡ false → self.new ≡ self.old) }
@@ -206,15 +212,15 @@ impl<T: Eq + Hash + Drop, S: BuildHasher, A: Allocator + Clone> Set<T, S, A> {
         // On success, the result is the old element, whose place the value has. Without one, only
         // the order of the other elements may change.
         ensures old { IfOk result (λ old. old ≡ find (T.eq value) self.old.elements) }
-        ensures replaced { IfOk result (λ old. is_some old ≡ true → self.new ≡ record {
+        ensures replaced { IfOk result (λ old. is_some old ≡ true → self.new ≡ record self.old {
           elements = swap_key (T.eq value) self.old.elements value;
-          capacity = self.old.capacity;
-          builder = self.old.builder;
         }) }
         ensures added { IfOk result (λ old. is_some old ≡ false →
             IsPermutation (value ∷ self.old.elements) self.new.elements) }
         ensures made { IfOk result (λ old. is_some old ≡ false →
             self.new.capacity ≡ set_capacity_for self.old 1) }
+        ensures resized { IfOk result (λ old. is_some old ≡ false →
+            self.new.resizes ≡ set_resizes_for self.old 1) }
         ensures builder { self.new.builder ≡ self.old.builder }
 
         // An error returns the value, says why it failed, and leaves the set unchanged.
@@ -246,7 +252,7 @@ impl<T: Eq + Hash + Drop, S: BuildHasher, A: Allocator + Clone> Set<T, S, A> {
     /// # Errors
     /// `CapacityOverflow` if there would be more than 2,000,000,000 elements or the bytes exceed
     /// `isize::MAX`; `AllocError` with the requested capacity if the allocation fails.
-    /// The set is unchanged.
+    /// The set is unchanged. Blocks that were allocated before the one that failed are freed.
     #[tactic(auto, using(crate::proofs::Elements::elements))]
     pub fn reserve(&mut self, additional: usize) -> Result<(), TryReserveError>
         // If the capacity is sufficient, it succeeds.
@@ -254,6 +260,7 @@ impl<T: Eq + Hash + Drop, S: BuildHasher, A: Allocator + Clone> Set<T, S, A> {
 
         // On success, the capacity is exact, and sufficient.
         ensures made { OnOk result (self.new.capacity ≡ set_capacity_for self.old additional) }
+        ensures resizes { OnOk result (self.new.resizes ≡ set_resizes_for self.old additional) }
         ensures enough { OnOk result (SetHasRoom self.new additional) }
 
         // An error says why it failed.
@@ -289,6 +296,9 @@ impl<T: Eq + Hash + Drop, S: BuildHasher, A: Allocator + Clone> Set<T, S, A> {
         // On success, the capacity is that of a new set, or the old one if that is less.
         ensures shrunk { OnOk result (self.new.capacity
             ≡ min self.old.capacity (fresh_capacity (length self.old.elements))) }
+        ensures resizes { OnOk result (CountsShrink
+            (SameSlots self.old.capacity self.new.capacity) self.new.capacity
+            self.old.resizes self.new.resizes) }
         ensures sufficient { self.old.capacity ≤ fresh_capacity (length self.old.elements)
             → self.new ≡ self.old }
 
@@ -324,6 +334,9 @@ impl<T: Eq + Hash + Drop, S: BuildHasher, A: Allocator + Clone> Set<T, S, A> {
         // On success, the capacity is that of a new set, or the old one if that is less.
         ensures shrunk { OnOk result (self.new.capacity
             ≡ min self.old.capacity (shrunk_capacity (length self.old.elements) min_capacity)) }
+        ensures resizes { OnOk result (CountsShrink
+            (SameSlots self.old.capacity self.new.capacity) self.new.capacity
+            self.old.resizes self.new.resizes) }
         ensures sufficient { self.old.capacity
             ≤ shrunk_capacity (length self.old.elements) min_capacity → self.new ≡ self.old }
 
@@ -349,6 +362,7 @@ impl<T: Eq + Hash + Drop, S: BuildHasher, A: Allocator + Clone> Set<T, S, A> {
         ensures found { result ≡ list_any (Q.matches value) self.old.elements }
         ensures removed { self.new.elements ≡ remove_key (Q.matches value) self.old.elements }
         ensures capacity { self.new.capacity ≡ self.old.capacity }
+        ensures resizes { self.new.resizes ≡ self.old.resizes }
         ensures builder { self.new.builder ≡ self.old.builder }
     {
         self.table.remove(value).is_some()
@@ -364,6 +378,7 @@ impl<T: Eq + Hash + Drop, S: BuildHasher, A: Allocator + Clone> Set<T, S, A> {
         ensures found { result ≡ find (Q.matches value) self.old.elements }
         ensures removed { self.new.elements ≡ remove_key (Q.matches value) self.old.elements }
         ensures capacity { self.new.capacity ≡ self.old.capacity }
+        ensures resizes { self.new.resizes ≡ self.old.resizes }
         ensures builder { self.new.builder ≡ self.old.builder }
     {
         let Some((element, _)) = self.table.remove_entry(value) else {
@@ -419,11 +434,7 @@ impl<T: Eq + Hash + Drop, S: BuildHasher, A: Allocator> Set<T, S, A> {
     ///
     /// Does not allocate, and does not change the capacity.
     pub fn clear(&mut self)
-        ensures { self.new ≡ record {
-          elements = [];
-          capacity = self.old.capacity;
-          builder = self.old.builder;
-        } }
+        ensures { self.new ≡ record self.old { elements = [] } }
     {
         self.table.clear();
     }
@@ -439,6 +450,7 @@ impl<T: Eq + Hash + Drop, S: BuildHasher, A: Allocator> Set<T, S, A> {
             → CalledAt F.FnMut f x res g → (res ≡ test x) × (g ≡ f))
             → self.new.elements ≡ filter test self.old.elements }
         ensures capacity { self.new.capacity ≡ self.old.capacity }
+        ensures resizes { self.new.resizes ≡ self.old.resizes }
         ensures builder { self.new.builder ≡ self.old.builder }
     {
         self.table.retain_by(&mut OnKey { keep: f });

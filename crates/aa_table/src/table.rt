@@ -5,7 +5,8 @@ ghost use Rattle.std.specs.Map.{lookup, lookup_entry, remove_entry, set_value};
 ghost use Rattle.std.specs.Option.{option_copied_mut};
 ghost use Rattle.allocator_api2.specs.declared.collections.TryReserveErrorKind.TheVariants.{AllocError, CapacityOverflow};
 ghost use Rattle.aa_table.specs.Full.{LacksRoom};
-ghost use Rattle.aa_table.specs.Contents.{value, keys_like, Sets, SetsBy, IsMap, HasRoom, capacity_for, fresh_capacity, shrunk_capacity, max_keys};
+ghost use Rattle.aa_table.specs.Contents.{empty, value, keys_like, Sets, SetsBy, IsMap, HasRoom, capacity_for, resizes_for, fresh_capacity, fresh_resizes, shrunk_capacity, max_keys};
+ghost use Rattle.aa_table.specs.Shrinking.{CountsShrink, SameSlots};
 ghost use Rattle.aa_table.specs.Places.{hashes};
 
 use crate::growth::{MIN_CAPACITY, drop_between, fit, fresh_capacity, resize};
@@ -14,6 +15,7 @@ use crate::into_parts::{IntoKeys, IntoValues};
 use crate::iter::{IntoIter, Iter, Keys, Values};
 use crate::lookup::Lookup;
 use allocator_api2::collections::{Refused, TryReserveError, TryReserveErrorKind};
+use allocator_api2::counter::Counter;
 use allocator_api2::raw_vec::RawVec;
 use std::alloc::{Allocator, Global};
 use std::hash::{BuildHasher, BuildHasherDefault, FoldHasher, Hash};
@@ -33,8 +35,9 @@ const MAX_KEYS: usize = 2_000_000_000;
 
 /// A hash table over any allocator that can be cloned.
 ///
-/// A contract sees a table as its entries, its capacity and the builder of its hashers. Each key
-/// has a home slot, and each slot a tag: a byte of the hash of its key.
+/// A contract sees a table as its entries, its capacity, the number of times that it moved to new
+/// blocks, and the builder of its hashers. Each key has a home slot, and each slot a tag: a byte of
+/// the hash of its key.
 pub struct Table<
     K: Eq + Hash,
     V,
@@ -48,6 +51,8 @@ pub struct Table<
     builder: S,
     count: usize,
     capacity: usize,
+    // how often the table moved to new blocks
+    resizes: Counter,
 }
 
 /// Why `try_insert` did not insert a key with its value, both of which it returns.
@@ -67,7 +72,7 @@ impl<K: Eq + Hash, V, S: BuildHasher, A: Allocator> Model for Table<K, V, S, A> 
     ghost use Rattle.aa_table.specs.Places.{hashes, IsTable};
     ghost use Rattle.aa_table.specs.Inside.{view_of};
 
-    ghost view = { λ t. view_of t.builder t.places.places t.capacity };
+    ghost view = { λ t. view_of t.builder t.places.places t.capacity t.resizes.count };
 
     ghost invariant = { λ t. IsTable K.eq
         (hashes S.BuildHasher S.Hasher.Hasher K.hash_input t.builder)
@@ -82,6 +87,7 @@ impl<K: Eq + Hash + Drop, V: Drop, S: BuildHasher + Drop, A: Allocator> Drop for
             builder,
             count: _,
             capacity: _,
+            resizes: _,
         } = self;
         let tags = tags_in(&index);
         drop_between(tags, &mut places, 0, tags.len());
@@ -102,6 +108,7 @@ impl<K: Eq + Hash + Drop, V: Drop, A: Allocator + Clone> Table<
     pub fn new_in(alloc: A) -> Self
         ensures entries { result.entries ≡ [] }
         ensures capacity { result.capacity ≡ 0 }
+        ensures resizes { result.resizes ≡ 0 }
     {
         Table::with_hasher_in(BuildHasherDefault::new(), alloc)
     }
@@ -118,6 +125,7 @@ impl<K: Eq + Hash + Drop, V: Drop, A: Allocator + Clone> Table<
         ensures entries { IfOk result (λ t. t.entries ≡ []) }
         ensures room { IfOk result (λ t. capacity ≤ t.capacity) }
         ensures made { IfOk result (λ t. t.capacity ≡ fresh_capacity capacity) }
+        ensures resizes { IfOk result (λ t. t.resizes ≡ fresh_resizes capacity) }
         ensures error { IfErr result (LacksRoom 0 0 capacity (max capacity 14)) }
     {
         Table::with_capacity_and_hasher_in(capacity, BuildHasherDefault::new(), alloc)
@@ -141,6 +149,7 @@ impl<K: Eq + Hash + Drop, V: Drop, S: BuildHasher + Drop, A: Allocator + Clone> 
         ensures entries { IfOk result (λ t. t.entries ≡ []) }
         ensures room { IfOk result (λ t. capacity ≤ t.capacity) }
         ensures made { IfOk result (λ t. t.capacity ≡ fresh_capacity capacity) }
+        ensures resizes { IfOk result (λ t. t.resizes ≡ fresh_resizes capacity) }
         ensures builder { IfOk result (λ t. t.builder ≡ builder) }
         ensures error { IfErr result (LacksRoom 0 0 capacity (max capacity 14)) }
     {
@@ -157,7 +166,7 @@ impl<K: Eq + Hash + Drop, V: Drop, S: BuildHasher, A: Allocator + Clone> Table<K
     ///
     /// Does not allocate.
     pub fn with_hasher_in(builder: S, alloc: A) -> Self
-        ensures { result ≡ record { entries = []; capacity = 0; builder = builder } }
+        ensures { result ≡ empty builder }
     {
         Table {
             places: RawVec::new_in(alloc),
@@ -165,6 +174,7 @@ impl<K: Eq + Hash + Drop, V: Drop, S: BuildHasher, A: Allocator + Clone> Table<K
             builder,
             count: 0,
             capacity: 0,
+            resizes: Counter::zero(),
         }
     }
 
@@ -304,6 +314,7 @@ impl<K: Eq + Hash + Drop, V: Drop, S: BuildHasher, A: Allocator + Clone> Table<K
         // The table has the entry too. Only the order of the others may change.
         ensures added { IsPermutation ((key, item) ∷ self.old.entries) self.new.entries }
         ensures capacity { self.new.capacity ≡ self.old.capacity }
+        ensures resizes { self.new.resizes ≡ self.old.resizes }
         ensures builder { self.new.builder ≡ self.old.builder }
     {
         match &mut self.index {
@@ -328,6 +339,7 @@ impl<K: Eq + Hash + Drop, V: Drop, S: BuildHasher, A: Allocator + Clone> Table<K
         // The table has the entry too. Only the order of the others may change.
         ensures added { IsPermutation ((key, item) ∷ self.old.entries) self.new.entries }
         ensures capacity { self.new.capacity ≡ self.old.capacity }
+        ensures resizes { self.new.resizes ≡ self.old.resizes }
         ensures builder { self.new.builder ≡ self.old.builder }
     {
         self.add(hash, key, item);
@@ -345,6 +357,7 @@ impl<K: Eq + Hash + Drop, V: Drop, S: BuildHasher, A: Allocator + Clone> Table<K
         ensures added { OnOk result
             (IsPermutation ((key, item) ∷ self.old.entries) self.new.entries) }
         ensures made { OnOk result (self.new.capacity ≡ capacity_for self.old 1) }
+        ensures resizes { OnOk result (self.new.resizes ≡ resizes_for self.old 1) }
         ensures builder { self.new.builder ≡ self.old.builder }
 
         // An error is that of `reserve(1)`.
@@ -403,6 +416,12 @@ impl<K: Eq + Hash + Drop, V: Drop, S: BuildHasher, A: Allocator + Clone> Table<K
         ensures replaced { IfOk result (λ old. is_some old ≡ true →
             self.new.capacity ≡ self.old.capacity) }
 
+        // It moves to new blocks only for a new key, and only if the table was full.
+        ensures resized { IfOk result (λ old. is_some old ≡ false →
+            self.new.resizes ≡ resizes_for self.old 1) }
+        ensures steady { IfOk result (λ old. is_some old ≡ true →
+            self.new.resizes ≡ self.old.resizes) }
+
         // The builder does not change.
         ensures builder { self.new.builder ≡ self.old.builder }
 
@@ -434,7 +453,7 @@ impl<K: Eq + Hash + Drop, V: Drop, S: BuildHasher, A: Allocator + Clone> Table<K
     /// # Errors
     /// `CapacityOverflow` if there would be more than 2,000,000,000 keys or the bytes exceed
     /// `isize::MAX`; `AllocError` with the requested capacity if the allocation fails.
-    /// The table is unchanged.
+    /// The table is unchanged. Blocks that were allocated before the one that failed are freed.
     #[inline]
     pub fn reserve(&mut self, additional: usize) -> Result<(), TryReserveError>
         // If the capacity is sufficient, it succeeds.
@@ -442,6 +461,7 @@ impl<K: Eq + Hash + Drop, V: Drop, S: BuildHasher, A: Allocator + Clone> Table<K
 
         // On success, the capacity is exact, and sufficient.
         ensures made { OnOk result (self.new.capacity ≡ capacity_for self.old additional) }
+        ensures resizes { OnOk result (self.new.resizes ≡ resizes_for self.old additional) }
         ensures enough { OnOk result (HasRoom self.new additional) }
 
         // An error says why it failed.
@@ -464,7 +484,13 @@ impl<K: Eq + Hash + Drop, V: Drop, S: BuildHasher, A: Allocator + Clone> Table<K
             return Err(TryReserveErrorKind::CapacityOverflow.into());
         }
         let capacity = (2 * self.capacity).max(keys).max(MIN_CAPACITY);
-        resize(&self.builder, &mut self.places, &mut self.index, capacity)?;
+        resize(
+            &self.builder,
+            &mut self.places,
+            &mut self.index,
+            capacity,
+            &mut self.resizes,
+        )?;
         self.capacity = capacity;
         Ok(())
     }
@@ -487,8 +513,10 @@ impl<K: Eq + Hash + Drop, V: Drop, S: BuildHasher, A: Allocator + Clone> Table<K
             → length self.new.entries + 1 ≡ length self.old.entries }
         ensures room { IsSome result → HasRoom self.new 1 }
 
-        // Capacity and builder do not change; if the key was absent, nothing does.
+        // Capacity and builder do not change, and no block is allocated. If the key was absent,
+        // nothing changes.
         ensures capacity { self.new.capacity ≡ self.old.capacity }
+        ensures resizes { self.new.resizes ≡ self.old.resizes }
         ensures builder { self.new.builder ≡ self.old.builder }
         ensures absent { result ≡ None → self.new ≡ self.old }
     {
@@ -516,8 +544,10 @@ impl<K: Eq + Hash + Drop, V: Drop, S: BuildHasher, A: Allocator + Clone> Table<K
             → length self.new.entries + 1 ≡ length self.old.entries }
         ensures room { IsSome result → HasRoom self.new 1 }
 
-        // Capacity and builder do not change; if the key was absent, nothing does.
+        // Capacity and builder do not change, and no block is allocated. If the key was absent,
+        // nothing changes.
         ensures capacity { self.new.capacity ≡ self.old.capacity }
+        ensures resizes { self.new.resizes ≡ self.old.resizes }
         ensures builder { self.new.builder ≡ self.old.builder }
         ensures absent { result ≡ None → self.new ≡ self.old }
     {
@@ -551,6 +581,9 @@ impl<K: Eq + Hash + Drop, V: Drop, S: BuildHasher, A: Allocator + Clone> Table<K
         // On success, the capacity is that of a new table, or the old one if that is less.
         ensures shrunk { OnOk result (self.new.capacity
             ≡ min self.old.capacity (fresh_capacity (length self.old.entries))) }
+        ensures resizes { OnOk result (CountsShrink
+            (SameSlots self.old.capacity self.new.capacity) self.new.capacity
+            self.old.resizes self.new.resizes) }
         ensures sufficient { self.old.capacity ≤ fresh_capacity (length self.old.entries)
             → self.new ≡ self.old }
 
@@ -585,6 +618,9 @@ impl<K: Eq + Hash + Drop, V: Drop, S: BuildHasher, A: Allocator + Clone> Table<K
         // On success, the capacity is that of a new table, or the old one if that is less.
         ensures shrunk { OnOk result (self.new.capacity
             ≡ min self.old.capacity (shrunk_capacity (length self.old.entries) min_capacity)) }
+        ensures resizes { OnOk result (CountsShrink
+            (SameSlots self.old.capacity self.new.capacity) self.new.capacity
+            self.old.resizes self.new.resizes) }
         ensures sufficient { self.old.capacity
             ≤ shrunk_capacity (length self.old.entries) min_capacity → self.new ≡ self.old }
 
@@ -601,7 +637,13 @@ impl<K: Eq + Hash + Drop, V: Drop, S: BuildHasher, A: Allocator + Clone> Table<K
         if self.capacity <= requested {
             return Ok(());
         }
-        fit(&self.builder, &mut self.places, &mut self.index, requested)?;
+        fit(
+            &self.builder,
+            &mut self.places,
+            &mut self.index,
+            requested,
+            &mut self.resizes,
+        )?;
         self.capacity = requested;
         Ok(())
     }
@@ -612,11 +654,7 @@ impl<K: Eq + Hash + Drop, V: Drop, S: BuildHasher, A: Allocator> Table<K, V, S, 
     ///
     /// Does not allocate, and does not change the capacity.
     pub fn clear(&mut self)
-        ensures { self.new ≡ record {
-          entries = [];
-          capacity = self.old.capacity;
-          builder = self.old.builder;
-        } }
+        ensures { self.new ≡ record self.old { entries = [] } }
     {
         self.count = 0;
         match &mut self.index {
@@ -643,6 +681,7 @@ impl<K: Eq + Hash + Drop, V: Drop, S: BuildHasher + Drop, A: Allocator> Table<K,
             builder,
             count,
             capacity: _,
+            resizes: _,
         } = self;
         drop(builder);
         IntoIter::over(index, places, count)

@@ -11,7 +11,8 @@ use std::hash::{BuildHasher, Hash};
 
 impl<K: Eq + Hash + Drop, V: Drop, S: BuildHasher + Default, A: Allocator + Clone> MadeWith<A>
     for Table<K, V, S, A> {
-    ghost is_made_with = { λ t. (t.entries ≡ []) × (t.capacity ≡ 0) × S.is_default t.builder };
+    ghost is_made_with = { λ t. (t.entries ≡ []) × (t.capacity ≡ 0) × (t.resizes ≡ 0)
+        × S.is_default t.builder };
 
     /// Returns an empty table with a default builder of hashers.
     ///
@@ -23,7 +24,7 @@ impl<K: Eq + Hash + Drop, V: Drop, S: BuildHasher + Default, A: Allocator + Clon
 
 impl<K: Eq + Hash + Drop, V: Drop, S: BuildHasher + Clone, A: Allocator + Clone> Emptied
     for Table<K, V, S, A> {
-    ghost is_emptied = { λ t. (t.entries ≡ []) × (t.capacity ≡ 0) };
+    ghost is_emptied = { λ t. (t.entries ≡ []) × (t.capacity ≡ 0) × (t.resizes ≡ 0) };
 
     /// Returns an empty table with clones of the builder and the allocator of `like`.
     ///
@@ -32,7 +33,7 @@ impl<K: Eq + Hash + Drop, V: Drop, S: BuildHasher + Clone, A: Allocator + Clone>
     /// # Errors
     /// `AllocError` if a clone fails.
     fn emptied(like: &Self) -> Result<Self, AllocError>
-        ensures made { IfOk result (λ t. (t.entries ≡ []) × (t.capacity ≡ 0)) }
+        ensures made { IfOk result (λ t. (t.entries ≡ []) × (t.capacity ≡ 0) × (t.resizes ≡ 0)) }
         ensures fits { S.is_infallible like.now.builder → ((a : A) → A.is_infallible a)
             → IsOk result }
     {

@@ -36,6 +36,7 @@ impl<T: Eq + Hash + Drop, S: BuildHasher, A: Allocator> Set<T, S, A> {
             ((self.old.elements ≡ []) × (self.new.elements ≡ []))
             (λ x. IsPermutation self.old.elements (x ∷ self.new.elements)) }
         ensures capacity { self.new.capacity ≡ self.old.capacity }
+        ensures resizes { self.new.resizes ≡ self.old.resizes }
         ensures builder { self.new.builder ≡ self.old.builder }
     {
         let Some((element, _)) = self.table.take_next(from) else {
@@ -46,11 +47,7 @@ impl<T: Eq + Hash + Drop, S: BuildHasher, A: Allocator> Set<T, S, A> {
 
     // Removes all elements and drops them.
     fn drop_all(&mut self)
-        ensures { self.new ≡ record {
-          elements = [];
-          capacity = self.old.capacity;
-          builder = self.old.builder;
-        } }
+        ensures { self.new ≡ record self.old { elements = [] } }
     {
         self.table.clear();
     }
@@ -107,11 +104,7 @@ impl<'a, T: Eq + Hash + Drop, S: BuildHasher, A: Allocator> Drop for Drain<'a, T
 
     /// Removes the remaining elements and drops them.
     fn drop(self)
-        ensures { self.exit.0.now ≡ record {
-          elements = [];
-          capacity = (drain_set self.entry).capacity;
-          builder = (drain_set self.entry).builder;
-        } }
+        ensures { self.exit.0.now ≡ record (drain_set self.entry) { elements = [] } }
     {
         let Drain { set, from: _ } = self;
         set.drop_all();

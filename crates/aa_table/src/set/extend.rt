@@ -15,7 +15,7 @@ impl<T: Eq + Hash + Drop, S: BuildHasher, A: Allocator + Clone> Set<T, S, A> {
     /// Inserts the items of `iter`, which must end.
     ///
     /// Of equal elements the first is kept. Inserts each item as `insert` does, and allocates only
-    /// if the set is full then.
+    /// if the set is full then. Does not allocate if there is capacity for all of them.
     ///
     /// # Errors
     /// The errors of `insert`. The set keeps the items before the one that could not be inserted,
@@ -30,6 +30,9 @@ impl<T: Eq + Hash + Drop, S: BuildHasher, A: Allocator + Clone> Set<T, S, A> {
             (λ p. InsertsElements T.eq self.old p.items self.new)) }
         ensures fits { ((it : U.IntoIter) → U.into_iter_gives iter it
             → SetHasRoom self.old (size (U.IntoIter.remaining it))) → IsOk result }
+        ensures steady { ((it : U.IntoIter) → U.into_iter_gives iter it
+            → SetHasRoom self.old (size (U.IntoIter.remaining it)))
+            → (self.new.capacity ≡ self.old.capacity) × (self.new.resizes ≡ self.old.resizes) }
         ensures error { IfErr result (LacksRoom self.new.capacity (length self.new.elements) 1
             (set_capacity_for self.new 1)) }
     {
@@ -87,6 +90,9 @@ impl<T: Eq + Hash + Drop, S: BuildHasher, A: Allocator + Clone> Extend<T> for Se
             (InsertsElements T.eq) iter self.old self.new result }
         ensures fits { ((it : U.IntoIter) → U.into_iter_gives iter it
             → SetHasRoom self.old (size (U.IntoIter.remaining it))) → IsOk result }
+        ensures steady { ((it : U.IntoIter) → U.into_iter_gives iter it
+            → SetHasRoom self.old (size (U.IntoIter.remaining it)))
+            → (self.new.capacity ≡ self.old.capacity) × (self.new.resizes ≡ self.old.resizes) }
     {
         match Set::extend(self, iter) {
             Ok(()) => Ok(()),

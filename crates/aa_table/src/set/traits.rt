@@ -16,7 +16,8 @@ use std::hash::{BuildHasher, Hash};
 
 impl<T: Eq + Hash + Drop, S: BuildHasher + Default, A: Allocator + Clone> MadeWith<A>
     for Set<T, S, A> {
-    ghost is_made_with = { λ s. (s.elements ≡ []) × (s.capacity ≡ 0) × S.is_default s.builder };
+    ghost is_made_with = { λ s. (s.elements ≡ []) × (s.capacity ≡ 0) × (s.resizes ≡ 0)
+        × S.is_default s.builder };
 
     /// Returns an empty set with a default builder of hashers.
     ///
@@ -27,7 +28,7 @@ impl<T: Eq + Hash + Drop, S: BuildHasher + Default, A: Allocator + Clone> MadeWi
 }
 
 impl<T: Eq + Hash + Drop, S: BuildHasher + Clone, A: Allocator + Clone> Emptied for Set<T, S, A> {
-    ghost is_emptied = { λ s. (s.elements ≡ []) × (s.capacity ≡ 0) };
+    ghost is_emptied = { λ s. (s.elements ≡ []) × (s.capacity ≡ 0) × (s.resizes ≡ 0) };
 
     /// Returns an empty set with clones of the builder and the allocator of `like`.
     ///
@@ -36,7 +37,7 @@ impl<T: Eq + Hash + Drop, S: BuildHasher + Clone, A: Allocator + Clone> Emptied 
     /// # Errors
     /// `AllocError` if a clone fails.
     fn emptied(like: &Self) -> Result<Self, AllocError>
-        ensures made { IfOk result (λ s. (s.elements ≡ []) × (s.capacity ≡ 0)) }
+        ensures made { IfOk result (λ s. (s.elements ≡ []) × (s.capacity ≡ 0) × (s.resizes ≡ 0)) }
         ensures fits { S.is_infallible like.now.builder → ((a : A) → A.is_infallible a)
             → IsOk result }
     {

@@ -62,6 +62,7 @@ impl<K: Eq + Hash + Drop, V: Drop, S: BuildHasher, A: Allocator> Table<K, V, S, 
             ((self.old.entries ≡ []) × (self.new.entries ≡ []))
             (λ e. IsPermutation self.old.entries (e ∷ self.new.entries)) }
         ensures capacity { self.new.capacity ≡ self.old.capacity }
+        ensures resizes { self.new.resizes ≡ self.old.resizes }
         ensures builder { self.new.builder ≡ self.old.builder }
     {
         if self.count == 0 {
@@ -138,11 +139,7 @@ impl<'a, K: Eq + Hash + Drop, V: Drop, S: BuildHasher, A: Allocator> Drop
 
     /// Removes the remaining keys and drops them with their values.
     fn drop(self)
-        ensures { self.exit.0.now ≡ record {
-          entries = [];
-          capacity = (drain_table self.entry).capacity;
-          builder = (drain_table self.entry).builder;
-        } }
+        ensures { self.exit.0.now ≡ record (drain_table self.entry) { entries = [] } }
     {
         let Drain { table, from: _ } = self;
         table.clear();

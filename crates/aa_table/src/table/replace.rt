@@ -20,6 +20,7 @@ impl<K: Eq + Hash, V, S: BuildHasher, A: Allocator> Table<K, V, S, A> {
         ensures replaced { OnOk result
             (self.new.entries ≡ set_key (K.eq key) self.old.entries key) }
         ensures capacity { self.new.capacity ≡ self.old.capacity }
+        ensures resizes { self.new.resizes ≡ self.old.resizes }
         ensures builder { self.new.builder ≡ self.old.builder }
 
         // Otherwise the key is absent, and nothing changes.

@@ -127,6 +127,7 @@ impl<K: Eq + Hash + Drop, V: Drop, S: BuildHasher, A: Allocator> Table<K, V, S, 
         requires { P.is_callable keeper.old }
         ensures kept { Retains P.calls keeper.old self.old.entries self.new.entries keeper.new }
         ensures capacity { self.new.capacity ≡ self.old.capacity }
+        ensures resizes { self.new.resizes ≡ self.old.resizes }
         ensures builder { self.new.builder ≡ self.old.builder }
     {
         if let Some(index) = &mut self.index {
@@ -143,6 +144,7 @@ impl<K: Eq + Hash + Drop, V: Drop, S: BuildHasher, A: Allocator> Table<K, V, S, 
         ensures kept { (last : F)
             × Retains (MayReturn F.step) f self.old.entries self.new.entries last }
         ensures capacity { self.new.capacity ≡ self.old.capacity }
+        ensures resizes { self.new.resizes ≡ self.old.resizes }
         ensures builder { self.new.builder ≡ self.old.builder }
     {
         self.retain_by(&mut OnEntry { keep: f });

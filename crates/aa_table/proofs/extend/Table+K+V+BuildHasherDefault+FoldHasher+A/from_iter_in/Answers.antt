@@ -1,4 +1,4 @@
-use Rattle.std.proofs.Common.{refl, subst}
+use Rattle.std.proofs.Common.{arith, refl, subst, sym, ◌∙◌}
 use Rattle.aa_table.specs.Contents.{SetsAll}
 use Rattle.aa_table.proofs.extend.Table+K+V+BuildHasherDefault+FoldHasher+A.from_iter_in.Goals as goal
 
@@ -6,7 +6,14 @@ pub returns-in-Err-clause-failed : goal.returns-in-Err-clause-failed
 returns-in-Err-clause-failed g c =
     let e = c.in-Err.ensures.extended in let table = c.extend.new.self in
     let set = subst (λ es. SetsAll g.K.PartialEq.eq es e.1 table.entries) c.new_in-table.ensures.entries e.3.entries in
-    (table, (e.0, e.1, e.2, record { entries = set; builder = refl }, e.4), c.in-Err.ensures.error)
+    let new = c.new_in-table.ensures in
+    (table, (e.0, e.1, e.2, record { entries = set; capacity = omega arith; resizes = λ none. e.3.resizes (none ∙ sym new.capacity) ∙ new.resizes; builder = refl }, e.4), c.in-Err.ensures.error)
+
+pub returns-in-Ok-clause-collected : goal.returns-in-Ok-clause-collected
+returns-in-Ok-clause-collected g c =
+    let e = c.in-Ok.ensures.extended in
+    let set = subst (λ es. SetsAll g.K.PartialEq.eq es e.1 c.extend.new.self.entries) c.new_in-table.ensures.entries e.3.entries in
+    (e.0, e.1, e.2, e.4, set)
 
 pub returns-in-Ok-clause-runs : goal.returns-in-Ok-clause-runs
 returns-in-Ok-clause-runs g c =

@@ -18,8 +18,8 @@ returns-then-insert_clones-2 g c =
     let count : c.in-Some.count ≡ length some + length others = omega (arith, c.in-Some.ensures.1, c.count_in-some.ensures, c.count_in-others.ensures) in
     record {
       made = made-set g.T.PartialEq.eq g.T.Clone.is_clone g.S.Default.is_default c.with_hasher_in-made.result c.reserve.new.self c.insert_clones.new.self c.insert_clones-then-insert_clones.new.self some others c.in-Some.count count
-          (ap (λ (s : SetView _ _). s.elements) c.with_hasher_in-made.ensures) (ap (λ (s : SetView _ _). s.capacity) c.with_hasher_in-made.ensures)
-          c.in_ok-reserve.ensures.same c.in_ok-reserve.ensures.made (c.insert_clones.ensures c.if-insert_clones.true) (c.insert_clones-then-insert_clones.ensures c.if-insert_clones-2.true)
+          (ap (λ (s : SetView _ _). s.elements) c.with_hasher_in-made.ensures) (ap (λ (s : SetView _ _). s.capacity) c.with_hasher_in-made.ensures) (ap (λ (s : SetView _ _). s.resizes) c.with_hasher_in-made.ensures)
+          c.in_ok-reserve.ensures.same c.in_ok-reserve.ensures.made c.in_ok-reserve.ensures.resizes (c.insert_clones.ensures c.if-insert_clones.true) (c.insert_clones-then-insert_clones.ensures c.if-insert_clones-2.true)
           (subst g.S.Default.is_default (sym (c.in_ok-reserve.ensures.builder ∙ ap (λ (s : SetView _ _). s.builder) c.with_hasher_in-made.ensures)) c.default.ensures);
       error = tt;
     }

@@ -21,4 +21,4 @@ returns-in-Some g c =
     let t = c.self.invariant in let h = hashes g.S.BuildHasher g.S.Hasher.Hasher g.K.Hash.hash_input c.self.inside.builder in let old = c.self.inside.places.places in
     let i = rw c.in-Some.is at t.indexed in let ts = c.in-Some.index.tags.items in let drop = c.drop_between.ensures in
     let empty = all-gone ts old c.drop_between.new.places.places (free h old i) (rw c.as_slice-tags.ensures at drop.dropped) drop.others in
-    rw (none-left c.drop_between.new.places.places empty) (ap (λ (f : TableView _ _ _). record { entries = []; capacity = f.capacity; builder = f.builder }) c.self.view_is)
+    rw (none-left c.drop_between.new.places.places empty) (ap (λ (f : TableView _ _ _). record f { entries = [] }) c.self.view_is)

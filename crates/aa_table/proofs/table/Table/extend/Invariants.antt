@@ -1,3 +1,4 @@
+use Rattle.std.proofs.Common.{◌≡◌}
 use Rattle.std.specs.Iterator.{size}
 use Rattle.aa_table.specs.Contents.{HasRoom, InsertsAll}
 use Rattle.aa_table.proofs.table.Table.extend.Given as goal
@@ -8,4 +9,5 @@ invariant-each g l =
     let left = g.U.IntoIter.Iterator.remaining in record {
       inserted : InsertsAll g.K.PartialEq.eq l.fn.self l.yielded l.self;
       room : ((it : g.row.U-IntoIter.Denot) → g.U.IntoIterator.into_iter_gives l.fn.iter it → HasRoom l.fn.self (size (left it))) → HasRoom l.self (size (left l.entry-iterator));
+      steady : ((it : g.row.U-IntoIter.Denot) → g.U.IntoIterator.into_iter_gives l.fn.iter it → HasRoom l.fn.self (size (left it))) → (l.self.capacity ≡ l.fn.self.capacity) × (l.self.resizes ≡ l.fn.self.resizes);
     }

@@ -58,6 +58,7 @@ returns g c =
             record {
               entries = subst (λ ds. IsPermutation (new ∷ old) (somes ds)) (sym written) (IsPermutation-trans (new ∷ old) (new ∷ mid) (somes (slice_set cs slot (Some new))) (IsPermutation-cons new old mid c.reserve.ensures.same) there);
               capacity = ap (λ (f : TableView _ _ _). f.capacity) c.self.view_is ∙ c.in_default.ensures.made;
+              resizes = ap (λ (f : TableView _ _ _). f.resizes) c.self.view_is ∙ c.in_default.ensures.resizes;
               builder = ap (λ (f : TableView _ _ _). f.builder) c.self.view_is ∙ c.reserve.ensures.builder;
             }),
         tt,

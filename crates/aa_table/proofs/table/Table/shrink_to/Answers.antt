@@ -1,6 +1,9 @@
-use Rattle.std.proofs.Common.{ap, arith, length, max, ◌∙◌, ◌≡◌}
+use Rattle.std.proofs.Common.{ap, arith, length, max, subst, ◌∙◌, ◌≡◌}
 use Rattle.std.proofs.lemmas.Bool.Decides.{nat_tests}
 use Rattle.aa_table.specs.Contents.{TableView, fresh_capacity, shrunk_capacity}
+use Rattle.aa_table.specs.Places.{tags_of}
+use Rattle.aa_table.specs.Shrinking.{CountsShrink, SameSlots}
+use Rattle.aa_table.proofs.Memory.{shrunk}
 use Rattle.aa_table.proofs.Sound.{moved}
 use Rattle.aa_table.proofs.table.Table.shrink_to.Goals as goal
 
@@ -17,3 +20,10 @@ returns-clause-shrunk g c =
 
 pub returns-clause-sufficient : goal.returns-clause-sufficient
 returns-clause-sufficient g c = λ small. absurd (grind (arith, small, c.if-self-requested.false, c.fresh_capacity-requested.ensures, c.self.invariant.counted, c.self.view_is))
+
+pub returns-clause-resizes : goal.returns-clause-resizes
+returns-clause-resizes g c =
+    let requested = c.fresh_capacity-requested.result in let slots = length (tags_of c.self.inside.index) in let made = c.in_ok-fit.ensures.counted in
+    let some = c.self.invariant.memory.some (grind (arith, nat_tests, c.if-self-requested.false)) in
+    subst (λ (f : TableView _ _ _). CountsShrink (SameSlots f.capacity requested) requested f.resizes c.fit.new.resizes.count) c.self.view_is
+    (shrunk c.self.inside.capacity requested slots c.self.inside.resizes.count c.fit.new.resizes.count some made)

@@ -15,4 +15,5 @@ invariant_of-result g c =
 pub returns : goal.returns
 returns g c =
     let empty : (s : ℕ) → get_or c.new_in.result.places s None ≡ None = λ s. ap (λ (b : Block _ _). get_or b.places s None) c.new_in.ensures ∙ empty-at _ 0 s in
-    ap (λ es. record { entries = es; capacity = 0; builder = c.args.builder }) (none-left c.new_in.result.places empty)
+    let none = none-left c.new_in.result.places empty in
+    λ i. record { entries = none i; capacity = 0; resizes = c.zero.ensures i; builder = c.args.builder }

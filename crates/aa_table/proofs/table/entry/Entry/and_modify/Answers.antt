@@ -21,5 +21,5 @@ returns-in-Occupied-clause-update g c = λ v u w.
     let is : d.table.now ≡ with_value eq o.table.now o.key did.0 = did.1.table in
     let again : with_value eq d.table.now d.key v ≡ with_value eq o.table.now o.key v
     = (λ i. with_value eq (is i) (did.1.key i) v)
-    ∙ ap (λ es. record { entries = es; capacity = o.table.now.capacity; builder = o.table.now.builder }) (written-twice (eq o.key) o.table.now.entries did.0 v) in
+    ∙ ap (λ es. record o.table.now { entries = es }) (written-twice (eq o.key) o.table.now.entries did.0 v) in
     subst (λ e. Writes e v u) (sym c.in-Occupied.is) (w ∙ again)
