@@ -10,27 +10,24 @@ pub record Growths : Type 0 where
   pub blocks : ℕ
   pub held : ℕ
 
--- how many blocks are allocated for `n` places: none if there are none
-abbrev pub block_count : (n : ℕ) → ℕ
-block_count n = if n == 0 then 0 else 1
-
--- the cost of a new block for `n` elements of `size` bytes. Zero-sized elements have no memory
+-- the cost of a new block for `n` elements of `size` bytes: nothing is allocated for none of them,
+-- or for zero-sized ones
 abbrev pub of_new : (size n : ℕ) → Growths
 of_new size n =
     let c = if size == 0 then 0 else n in
-    record { moved = 0; blocks = block_count c; held = c }
+    record { moved = 0; blocks = if c == 0 then 0 else 1; held = c }
 
 -- the cost `g` and that of a growth from `old` to `new` places, which moved `n` elements
 abbrev pub with_growth : Growths → (n old new : ℕ) → Growths
 with_growth g n old new =
     record { moved = g.moved + n; blocks = g.blocks + 1; held = max g.held (old + new) }
 
--- the cost `g` and that of a shrink from `old` to `new` places
+-- the cost `g` and that of a shrink from `old` to `new` places, which allocates unless that is 0
 abbrev pub with_shrink : Growths → (old new : ℕ) → Growths
 with_shrink g old new =
     record {
       moved = g.moved;
-      blocks = g.blocks + block_count new;
+      blocks = g.blocks + (if new == 0 then 0 else 1);
       held = max g.held (old + new);
     }
 

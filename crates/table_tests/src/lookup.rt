@@ -88,7 +88,7 @@ fn removed(names: &mut Names, name: &str) -> Option<usize> {
 // Returns whether there is such a name, and it is the one that is looked for.
 fn finds_itself(names: &Names, name: &str) -> bool {
     match names.get(name) {
-        Some(found) => name.matches(found),
+        Some(found) => Lookup::matches(&name, found),
         None => false,
     }
 }
