@@ -1,16 +1,12 @@
 -- Items that are taken from an iterator and put into a block.
-use Rattle.aa_boxed.proofs.Common.{Count, LowerAtMost, AllocError, Building, Doubling, Err, IfErr, IfOk, LacksRoom, List, None, Ok, Option, Result, Slice, Some, FromIterFails, FailsAtEnd, TryReserveError, WholeRun, Yields, Yields-more, YieldsWithLower, YieldsThen, [], amortized, ap, arith, requested_with, finished, if◌then◌else◌, inl, min_capacity, length, length-append, nat_tests, refl, rules, new_capacity, subst, sym, total_runs, usize_max, with_pushed, ℕ, ◌++◌, ◌+◌, ◌<◌, ◌==◌, ◌∙◌, ◌∷◌, ◌≡◌, ◌≤◌}
+use Rattle.aa_boxed.proofs.Costs.{Doubled, Doubled-grows, Doubled-put, Doubled-start, costs_to_collect}
+use Rattle.aa_boxed.specs.Slice.{CollectCost, empty_builder, shrunk, with_room}
+use Rattle.aa_raw.specs.Growths.{with_growth}
+use Rattle.aa_boxed.proofs.Common.{Count, LowerAtMost, AllocError, Building, Doubling, Err, IfErr, IfOk, LacksRoom, List, None, Ok, Option, Result, Slice, Some, FromIterFails, FailsAtEnd, TryReserveError, WholeRun, Yields, Yields-more, YieldsWithLower, YieldsThen, [], amortized, ap, arith, requested_with, finished, if◌then◌else◌, inl, min_capacity, length, length-append, nat_tests, refl, new_capacity, subst, sym, total_runs, usize_max, with_pushed, ℕ, ◌++◌, ◌+◌, ◌<◌, ◌==◌, ◌∙◌, ◌∷◌, ◌≡◌, ◌≤◌}
 
 -- n items that fill their capacity are no fewer than the places of a new block
 over_start : (size n : ℕ) → (size ≡ 0 → usize_max ≤ n) → n < new_capacity size 0 → ⊥
 over_start size n many h = grind (arith, nat_tests)
-
--- w is f, or f with more capacity
-pub record HasMore {T A : Type 0} (f w : Building T A) : Type 0 where
-  pub items : w.items ≡ f.items
-  pub growth : w.growth ≡ f.growth
-  pub alloc : w.alloc ≡ f.alloc
-  pub capacity : f.capacity ≤ w.capacity
 
 -- the lower bound is n at the end, and 0 before
 abbrev lower_at_end : (n : ℕ) → ℕ → ℕ
@@ -23,11 +19,11 @@ module _ {S T : Type 0} (steps : S → Option T → S → Type 0) where
 
   -- all items were taken, and s is the rest of the iterator
   module _ {A : Type 0} (f : Building T A) (iter s : S) (d : YieldsThen steps iter f.items None s) where
-    pub whole_run_of : {E : Type 0} (r : Result (Slice T A) E) → IfOk r (λ b. b ≡ finished f) → IfOk r (λ b. WholeRun steps iter (λ p. b.items ≡ p.items))
-    whole_run_of (Ok b) e =
+    pub whole_run_of : {E : Type 0} (r : Result (Slice T A) E) (w : Slice T A) → w.items ≡ f.items → IfOk r (λ b. b ≡ w) → IfOk r (λ b. WholeRun steps iter (λ p. b.items ≡ p.items))
+    whole_run_of (Ok b) w same e =
         let W : List T → Type 0 = λ ys. WholeRun steps iter (λ p. ys ≡ p.items) in
-        subst W (sym (ap (λ y. y.items) e)) (total_runs steps iter (Unit {0}) (λ xs. f.items ≡ xs) (f.items, λ _. (s, d), refl) tt)
-    whole_run_of (Err error) e = tt
+        subst W (sym (ap (λ y. y.items) e ∙ same)) (total_runs steps iter (Unit {0}) (λ xs. f.items ≡ xs) (f.items, λ _. (s, d), refl) tt)
+    whole_run_of (Err error) w same e = tt
 
     -- at the end, the allocation of a block of exactly their number failed
     pub fails_at_end : (remaining : S → Count) (size : ℕ) (Q : TryReserveError → Type 0) → ((e : TryReserveError) → FailsAtEnd steps (LowerAtMost remaining) size iter e s → Q e)
@@ -42,29 +38,63 @@ module _ {S T : Type 0} (steps : S → Option T → S → Type 0) where
       pub grows : f.growth ≡ Doubling
       pub over : f.alloc ≡ alloc
       pub zst : size ≡ 0 → usize_max ≤ f.capacity
+      pub cost : Doubled size f.capacity (length f.items) (left iter) f.grown
       pub fewer : length f.items + left s ≤ left iter
 
-    pub Coming-start : (f : Building T A) → f ≡ record { items = []; capacity = if size == 0 then usize_max else 0; growth = Doubling; alloc = alloc } → Coming iter f
-    Coming-start f e = rw e (search (rules, nat_tests))
+    pub Coming-start : (f : Building T A) → f ≡ empty_builder size 0 Doubling alloc → Coming iter f
+    Coming-start f e = subst (λ b. Coming iter b) (sym e) (record {
+      came = refl;
+      grows = refl;
+      over = refl;
+      zst = λ z. grind (arith, nat_tests, z);
+      cost = Doubled-start size (left iter);
+      fewer = omega arith;
+    })
 
     module _ (s : S) (f : Building T A) (p : Coming s f) where
       pub Coming-ends : (u : S) → steps s None u → YieldsThen steps iter f.items None u
       Coming-ends u h = (s, p.came, h)
+
+      -- what the boxed slice has cost
+      pub Coming-costs : {E : Type 0} (r : Result (Slice T A) E) → IfOk r (λ b. b ≡ finished (shrunk size f)) → IfOk r (λ b. CollectCost size (length b.items) (left iter) b.grown)
+      Coming-costs (Ok b) e = rw e (costs_to_collect size f.capacity (length f.items) (left iter) f.grown p.cost (omega (arith, p.fewer)))
+      Coming-costs (Err error) e = tt
 
       -- one more item was taken
       module _ (x : T) (t : S) (step : steps s (Some x) t) (on : left t < left s) where
         longer : length (f.items ++ x ∷ []) ≡ length f.items + 1
         longer = length-append f.items (x ∷ [])
 
-        -- and was put into w
-        pub Coming-put : (w : Building T A) → HasMore f w → (new : Building T A) → new ≡ with_pushed w x → Coming t new
-        Coming-put w more new e = subst (λ b. Coming t b) (sym e) (record {
-          came = subst (λ xs. Yields steps iter (xs ++ x ∷ []) t) (sym more.items) (Yields-more steps iter f.items s x t p.came step);
-          grows = more.growth ∙ p.grows;
-          over = more.alloc ∙ p.over;
-          zst = λ z. omega (arith, p.zst z, more.capacity);
-          fewer = omega (arith, p.fewer, on, longer, ap (λ xs. length (xs ++ x ∷ [])) more.items);
-        })
+        -- and put into `w`, which has the items of `f`
+        Coming-put : (w new : Building T A) → w.items ≡ f.items → w.growth ≡ f.growth → w.alloc ≡ f.alloc → f.capacity ≤ w.capacity
+            → Doubled size w.capacity (length f.items + 1) (left iter) w.grown → new ≡ with_pushed w x → Coming t new
+        Coming-put w new items growth over more cost e =
+            let all : w.items ++ x ∷ [] ≡ f.items ++ x ∷ [] = ap (λ xs. xs ++ x ∷ []) items in
+            subst (λ b. Coming t b) (sym e) (record {
+              came = subst (λ xs. Yields steps iter xs t) (sym all) (Yields-more steps iter f.items s x t p.came step);
+              grows = growth ∙ p.grows;
+              over = over ∙ p.over;
+              zst = λ z. omega (arith, p.zst z, more);
+              cost = subst (λ n. Doubled size w.capacity n (left iter) w.grown) (sym (ap length all ∙ longer)) cost;
+              fewer = omega (arith, p.fewer, on, longer, ap length all);
+            })
+
+        -- there was a place for it
+        pub Coming-there : (w new : Building T A) → w ≡ f → new ≡ with_pushed w x → Coming t new
+        Coming-there w new same e =
+            Coming-put f new refl refl refl (omega arith) (Doubled-put size f.capacity (length f.items) (left iter) f.grown p.cost) (e ∙ ap (λ b. with_pushed b x) same)
+
+        -- or the full block grew for it and for as many as may follow
+        pub Coming-grown : length f.items ≡ f.capacity → (yields k : ℕ) → yields ≤ left t → k ≡ requested_with yields → (f.capacity < length f.items + k → 0 < size)
+            → (w new : Building T A) → w ≡ with_room size f k → new ≡ with_pushed w x → Coming t new
+        Coming-grown full yields k few asked sized w new is e =
+            let n = length f.items in let c = amortized f.growth f.capacity (n + k) (min_capacity size) in
+            let more : 0 < k = omega (arith, asked) in
+            let room : (with_room size f k) ≡ record f { capacity = c; grown = with_growth f.grown n f.capacity c } = grind (arith, nat_tests, full, more) in
+            let cost = Doubled-grows size f.capacity n (left iter) f.grown p.cost k full (sized (omega (arith, full, more))) more (omega (arith, asked, few, on, p.fewer)) in
+            Coming-put (record f { capacity = c; grown = with_growth f.grown n f.capacity c }) new refl refl refl (rw p.grows (omega arith))
+            (rw p.grows cost)
+            (e ∙ ap (λ b. with_pushed b x) (is ∙ room))
 
         -- or reserving capacity for it failed
         module _ (full : length f.items ≡ f.capacity) where

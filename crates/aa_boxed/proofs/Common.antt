@@ -1,7 +1,7 @@
 -- The names from elsewhere that proofs here cite, passed on.
 pub use Rattle.aa_boxed.specs.Boxed.{value_of}
 pub use Rattle.aa_boxed.specs.Room.{IsExactFor}
-pub use Rattle.aa_boxed.specs.Slice.{Building, Slice, FromIterFails, FailsAtEnd, finished, slice_of, with_pushed}
+pub use Rattle.aa_boxed.specs.Slice.{Building, Slice, FromIterFails, FailsAtEnd, finished, shrunk, slice_of, with_pushed}
 pub use Rattle.aa_boxed.specs.BoxedSliceInner.{IsWhole}
 pub use Rattle.aa_boxed.specs.Hints.{LowerAtMost, YieldsWithLower, requested_with}
 pub use Rattle.aa_boxed.specs.Text.{StringReserveFails, AppendsTexts, FailsAtText, Text, appended_capacity, reserved_capacity}

@@ -5,6 +5,7 @@ pub use Exact.*
 pub use Texts.*
 pub mod Common
 pub mod Coming
+pub mod Costs
 pub mod Comparing
 pub mod Exact
 pub mod Indexed

@@ -1,7 +1,6 @@
 -- The invariants of `BoxedSlice` and `Builder`, and the models of their fields.
-use Rattle.std.specs.Prelude.{◌≡◌, length, drop, is_none, true}
-use Rattle.std.specs.List.{list_all}
-use Rattle.aa_raw.specs.Places.{IsRun, run}
+use Rattle.std.specs.Prelude.{length, drop}
+use Rattle.aa_raw.specs.Places.{AreEmpty, IsRun, run}
 use Rattle.aa_boxed.specs.Room.{IsExactFor}
 use Rattle.aa_boxed.specs.Slice.{Slice, Building, slice_of}
 use Rattle.aa_boxed.specs.declared.boxed.slice.BoxedSlice.TheInside.{Inside as InsideSlice}
@@ -17,7 +16,7 @@ module _ {T A : Type 0} where
   pub record IsWhole (v : InsideSlice T A) : Type 0 where
     pub filled : IsRun v.block.places 0 v.len
     pub exact : IsExactFor v.len v.block.places
-    pub others : list_all is_none (drop v.len v.block.places) ≡ true
+    pub others : AreEmpty (drop v.len v.block.places)
 
   -- the builder with the fields `v`: the first `v.len` values of its block, and as much capacity as
   -- there are places
@@ -27,9 +26,11 @@ module _ {T A : Type 0} where
         items = run v.block.places 0 v.len;
         capacity = length v.block.places;
         growth = v.block.growth;
+        grown = v.block.grown;
         alloc = v.block.alloc;
       }
 
-  -- the first `v.len` places are filled
-  abbrev pub IsFront : InsideBuilder T A → Type 0
-  IsFront v = IsRun v.block.places 0 v.len
+  -- the first `v.len` places are filled and no others are
+  pub record IsFront (v : InsideBuilder T A) : Type 0 where
+    pub filled : IsRun v.block.places 0 v.len
+    pub others : AreEmpty (drop v.len v.block.places)

@@ -3,6 +3,7 @@ use Rattle.std.specs.Prelude.{◌≡◌, ℕ, ◌+◌, ◌-◌, List, [], ◌∷
 use Rattle.std.specs.Iterator.{Yields}
 use Rattle.std.specs.String.{string_bytes, string_capacity}
 use Rattle.aa_raw.specs.Growth.{amortized, min_capacity}
+use Rattle.aa_raw.specs.Growths.{Growths, of_new}
 use Rattle.aa_raw.specs.Room.{LacksRoom}
 use Rattle.aa_raw.specs.declared.collections.TryReserveError.{TryReserveError}
 use Rattle.aa_raw.specs.declared.raw_vec.Growth.{Growth}
@@ -14,20 +15,23 @@ use Rattle.aa_boxed.specs.Slice.{Slice}
 pub record Text (A : Type 0) : Type 0 where
   pub bytes : List ℕ
   pub growth : Growth
+  pub grown : Growths  -- what their memory has cost so far
   pub alloc : A
 
 module _ {A : Type 0} where
   -- the text whose bytes are the boxed slice `s`
   abbrev pub text_of_slice : Slice ℕ A → Text A
-  text_of_slice s = record { bytes = s.items; growth = s.growth; alloc = s.alloc }
+  text_of_slice s =
+      record { bytes = s.items; growth = s.growth; grown = s.grown; alloc = s.alloc }
 
   -- the text of these `bytes` in a new block of the allocator `a`
   abbrev pub new_text : List ℕ → A → Text A
-  new_text bytes a = record { bytes = bytes; growth = Doubling; alloc = a }
+  new_text bytes a =
+      record { bytes = bytes; growth = Doubling; grown = of_new 1 (length bytes); alloc = a }
 
   -- the bytes of the text `t` as a boxed slice
   abbrev pub bytes_of : Text A → Slice ℕ A
-  bytes_of t = record { items = t.bytes; growth = t.growth; alloc = t.alloc }
+  bytes_of t = record { items = t.bytes; growth = t.growth; grown = t.grown; alloc = t.alloc }
 
 -- the capacity of a string of `len` bytes after it reserved `n` more: unchanged if they fit, and
 -- else that of an amortized growth

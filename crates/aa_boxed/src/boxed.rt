@@ -165,7 +165,7 @@ impl<T, A: Allocator> Box<T, A> {
     ///
     /// Does not allocate.
     pub fn into_boxed_slice(b: Box<T, A>) -> BoxedSlice<T, A>
-        ensures { result ≡ new_slice (b.value ∷ []) b.alloc }
+        ensures { result ≡ new_slice (type_size T.row) (b.value ∷ []) b.alloc }
     {
         let Box { block } = b;
         BoxedSlice::from_block(block.into_raw_vec(), 1)

@@ -1,14 +1,11 @@
 -- What a caller of the gap buffer closes its goals by, `#[tactic(auto, using(aa_gap::proofs::Callers::callers))]`: how much growth
 -- has moved in a text that began empty, and what memory it took.
-use Rattle.aa_gap.proofs.Common.{Buffer, Doubling, Edit, Edits, FewBlocks, Growth, GrowsWithin, List, Sparing, ap, arith, empty, inserts, len, most_held, nat_tests, subst, ℕ, ◌*◌, ◌+◌, ◌-◌, ◌∙◌, ◌≡◌, ◌≤◌}
+use Rattle.aa_gap.proofs.Common.{Buffer, Doubling, Edit, Edits, FewBlocks, Growth, GrowsWithin, List, Sparing, ap, arith, empty, inserts, len, most_held, nat_tests, subst, ℕ, ◌*◌, ◌+◌, ◌-◌, ◌≡◌, ◌≤◌}
 use Rattle.aa_raw.specs.Growths.{of_new}
 
 -- no memory is needed for no elements
-no_blocks : (size : ℕ) → (of_new size 0).blocks ≡ 0
-no_blocks size = grind (arith, nat_tests)
-
-none_held : (size : ℕ) → (of_new size 0).held ≡ 0
-none_held size = grind (arith, nat_tests)
+no_memory : (size : ℕ) → ((of_new size 0).blocks ≡ 0) × ((of_new size 0).held ≡ 0)
+no_memory size = grind (arith, nat_tests)
 
 module _ {T A : Type 0} {size : ℕ} where
   -- each element was moved twice at most where the block doubles
@@ -34,14 +31,11 @@ module _ {T A : Type 0} {size : ℕ} where
 
     few_blocks : FewBlocks g new.grown.blocks (inserts edits)
     few_blocks =
-        let none : old.grown.blocks ≡ 0 = ap (λ b. b.grown.blocks) e ∙ no_blocks size in
-        let all : new.grown.blocks - old.grown.blocks ≡ new.grown.blocks = omega (arith, none) in
+        let all : new.grown.blocks - old.grown.blocks ≡ new.grown.blocks = omega (arith, ap (λ b. b.grown.blocks) e, no_memory size) in
         rw (ap (λ b. b.growth) e, all, longest) at c.blocks
 
     few_held : new.grown.held ≤ most_held g (inserts edits)
-    few_held =
-        let none : old.grown.held ≡ 0 = ap (λ b. b.grown.held) e ∙ none_held size in
-        omega (arith, rw (ap (λ b. b.growth) e, longest) at c.held, none)
+    few_held = omega (arith, rw (ap (λ b. b.growth) e, longest) at c.held, ap (λ b. b.grown.held) e, no_memory size)
 
   pub blocks-from_empty : (alloc : A) (old new : Buffer T A) (edits : List (Edit T)) → old ≡ empty size 0 Doubling alloc → Edits size old edits new → FewBlocks Doubling new.grown.blocks (inserts edits)
   blocks-from_empty = few_blocks Doubling

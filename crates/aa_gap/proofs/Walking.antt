@@ -16,8 +16,7 @@ module _ {T : Type 0} where
   runs-in_reverse =
       from_back (TakesLast deref) deref (λ s. s) (λ s t h. ap length h.0) (λ s x t h. h)
 
--- the whole text, where the cursor is at its end
-module _ {T : Type 0} where
+  -- the whole text, where the cursor is at its end
   pub before-end : (xs ys : List T) → take (length xs + length ys) (xs ++ ys) ≡ xs ++ ys
   before-end xs ys = take-append-add xs ys (length ys) ∙ ap (λ zs. xs ++ zs) (take-length ys)
 

@@ -2,6 +2,7 @@
 ghost use Rattle.std.specs.Prelude.{◌≡◌, ◌+◌, ◌-◌, ◌*◌, ◌<◌, ◌≤◌, ◌∷◌, ◌++◌, [], length, take, drop, slice_get, option_copied, IfOk, IfErr, OnOk, OnErr, IsOk, IsTrue, false, MatchOption, ◌↔◌};
 ghost use Rattle.std.specs.Mem.{type_size};
 ghost use Rattle.std.specs.Iterator.{IsFinite};
+ghost use Rattle.aa_raw.specs.Places.{AreEmpty};
 ghost use Rattle.aa_raw.specs.Growth.{usize_max};
 ghost use Rattle.aa_raw.specs.Places.{IsCapacity};
 ghost use Rattle.aa_raw.specs.Errors.{AllocationFails};
@@ -55,11 +56,12 @@ impl<T, A: Allocator> Model for GapBuffer<T, A> {
     ghost invariant = { IsParted };
 }
 
-#[tactic(auto, using(aa_raw::proofs::Calls::at_ends))]
+#[tactic(auto, using(aa_raw::proofs::Calls::at_ends, crate::proofs::Parts::beside))]
 impl<T, A: Allocator> GapBuffer<T, A> {
     /// Returns an empty text.
     ///
     /// Does not allocate.
+    #[tactic(auto, using(aa_raw::proofs::Calls::at_ends, aa_raw::proofs::Beyond::emptied))]
     pub fn new_in(alloc: A) -> Self
         ensures { result ≡ empty (type_size T.row) 0 Growth.Doubling alloc }
     {
@@ -69,6 +71,7 @@ impl<T, A: Allocator> GapBuffer<T, A> {
     /// Returns an empty text with the growth policy `growth`.
     ///
     /// Does not allocate.
+    #[tactic(auto, using(aa_raw::proofs::Calls::at_ends, aa_raw::proofs::Beyond::emptied))]
     pub fn with_growth_in(growth: Growth, alloc: A) -> Self
         ensures { result ≡ empty (type_size T.row) 0 growth alloc }
     {
@@ -82,6 +85,7 @@ impl<T, A: Allocator> GapBuffer<T, A> {
     ///
     /// # Errors
     /// `CapacityOverflow`; or `AllocError` with `capacity`.
+    #[tactic(auto, using(aa_raw::proofs::Calls::at_ends, aa_raw::proofs::Beyond::emptied))]
     pub fn with_capacity_in(capacity: usize, alloc: A) -> Result<Self, TryReserveError>
         ensures made { IfOk result
             (λ v. v ≡ empty (type_size T.row) capacity Growth.Doubling alloc) }
@@ -91,8 +95,9 @@ impl<T, A: Allocator> GapBuffer<T, A> {
         Ok(GapBuffer::with_block(block))
     }
 
-    // Returns an empty text in `block`, all of whose places become the gap.
+    // Returns an empty text in the empty `block`, all of whose places become the gap.
     fn with_block(block: RawVec<T, A>) -> Self
+        requires { AreEmpty block.places }
         ensures { result ≡ record {
           before = [];
           after = [];
@@ -531,7 +536,7 @@ impl<T, A: Allocator + Clone> Emptied for GapBuffer<T, A> {
     }
 }
 
-#[tactic(auto, using(aa_raw::proofs::Calls::in_runs))]
+#[tactic(auto, using(aa_raw::proofs::Calls::in_runs, crate::proofs::Parts::dropped))]
 impl<T: Drop, A: Allocator> Drop for GapBuffer<T, A> {
     /// Drops the elements in order and deallocates the memory.
     fn drop(self) {

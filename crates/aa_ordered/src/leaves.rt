@@ -330,6 +330,7 @@ impl<T: Drop, A: Allocator> Leaves<T, A> {
 
 impl<T: Drop, A: Allocator> Drop for Leaves<T, A> {
     /// Drops the items of all lists, in order.
+    #[tactic(auto, using(allocator_api2::proofs::Blocks::emptied))]
     fn drop(self) {
         let Leaves {
             mut block,
@@ -337,6 +338,7 @@ impl<T: Drop, A: Allocator> Drop for Leaves<T, A> {
             used,
         } = self;
         moves::drop_lists(&mut block, &heads.as_slice()[..used]);
+        block.forget_from(0);
         drop(heads);
     }
 }

@@ -28,13 +28,10 @@ module _ {X : Type 0} where
 
   -- a value put before a run
   pub run-unshift : (cs : List (Option X)) (from n : ℕ) (x : X) (i k : ℕ) → i + 1 ≡ from → n + 1 ≡ k → i < length cs → run (slice_set cs i (Some x)) i k ≡ x ∷ run cs from n
-  run-unshift cs from n x i k e l room =
-      run-split (slice_set cs i (Some x)) i from 1 n k e (omega arith) ∙ ap (λ ys. ys ++ run (slice_set cs i (Some x)) from n) (run-set-same cs i x room)
-      ∙ ap (λ ys. x ∷ ys) (run-set-below cs from n i (Some x) (omega arith))
+  run-unshift cs from n x i k e l room = grind (arith, run-split (slice_set cs i (Some x)) i from 1 n k e, run-set-same, run-set-below)
 
   pub IsRun-unshift : (cs : List (Option X)) (from n : ℕ) (x : X) (i k : ℕ) → i + 1 ≡ from → n + 1 ≡ k → IsRun cs from n → IsRun (slice_set cs i (Some x)) i k
-  IsRun-unshift cs from n x i k e l r =
-      IsRun-long (slice_set cs i (Some x)) i k (ap length (run-unshift cs from n x i k e l (omega (arith, r.0))) ∙ omega (arith, length-run cs from n r)) (omega (arith, r.0, length-set cs i (Some x)))
+  IsRun-unshift cs from n x i k e l r = IsRun-long (slice_set cs i (Some x)) i k (grind (arith, r.0, run-unshift cs from n x i k e l, length-run cs from n r)) (omega (arith, r.0, length-set cs i (Some x)))
 
   pub ruleset by_arithmetic = (run-push, IsRun-push, run-pop, IsRun-pop, run-shift, IsRun-shift, run-unshift, IsRun-unshift, run-split, IsRun-part)
 
@@ -93,7 +90,6 @@ module _ {X : Type 0} where
   slice_get-in_first cs from n i ys x r h e = slice_get-front (run cs from n) ys i (omega (arith, h, length-run cs from n r)) ∙ slice_get-run_from cs from n i x r h e
 
   pub slice_get-in_second : (cs : List (Option X)) (from n i m : ℕ) (x : X) → IsRun cs from n → IsRun cs 0 m → n ≤ i → i - n < m → get_or cs (i - n) None ≡ Some x → slice_get (run cs from n ++ run cs 0 m) i ≡ Some x
-  slice_get-in_second cs from n i m x r s h l e =
-      slice_get-after (run cs from n) (run cs 0 m) i (omega (arith, h, length-run cs from n r)) ∙ ap (λ j. slice_get (run cs 0 m) (i - j)) (length-run cs from n r) ∙ slice_get-run cs m (i - n) x s l e
+  slice_get-in_second cs from n i m x r s h l e = grind (arith, slice_get-after (run cs from n) (run cs 0 m) i, length-run, slice_get-run)
 
   pub ruleset two_runs = (nat_tests, slice_get-in_first, slice_get-in_second, slice_get_past, run_filled, first_filled, length-run)

@@ -83,13 +83,10 @@ module _ {X : Type 0} where
 
   -- values after the first n, all at once
   pub run-put_all : (cs : List (Option X)) (n k : ℕ) (xs : List X) → n + k ≤ length cs → length xs ≡ k → run (with_run cs n k (map Some xs)) 0 (n + k) ≡ run cs 0 n ++ xs
-  run-put_all cs n k xs fits long =
-      let ds : List (Option X) = with_run cs n k (map Some xs) in
-      run-split ds 0 n n k (n + k) (omega arith) refl ∙ ap (λ ys. ys ++ run ds n k) (run-with-below cs n k (map Some xs) 0 n fits (omega arith)) ∙ ap (λ ys. run cs 0 n ++ ys) (run-with cs n k xs fits long)
+  run-put_all cs n k xs fits long = grind (arith, run-split (with_run cs n k (map Some xs)) 0 n n k (n + k), run-with-below, run-with)
 
   pub IsRun-put_all : (cs : List (Option X)) (n k : ℕ) (xs : List X) → n + k ≤ length cs → length xs ≡ k → IsRun cs 0 n → IsRun (with_run cs n k (map Some xs)) 0 (n + k)
-  IsRun-put_all cs n k xs fits long r =
-      IsRun-long (with_run cs n k (map Some xs)) 0 (n + k) (ap length (run-put_all cs n k xs fits long) ∙ length-append (run cs 0 n) xs ∙ omega (arith, length-run cs 0 n r, long)) (omega (arith, fits, length-with_run cs n k (map Some xs) fits (length-map xs (λ (x : X). Some x) ∙ long)))
+  IsRun-put_all cs n k xs fits long r = IsRun-long (with_run cs n k (map Some xs)) 0 (n + k) (grind (arith, run-put_all, length-append, length-run)) (grind (arith, length-with_run, length-map))
 
   -- and those of another block
   pub run-transferred : (cs ds : List (Option X)) (n from k : ℕ) → n + k ≤ length cs → IsRun ds from k → run (with_run cs n k (take k (drop from ds))) 0 (n + k) ≡ run cs 0 n ++ run ds from k
@@ -116,8 +113,7 @@ module _ {X : Type 0} where
   run-dropped cs m n h r = run-with-below cs m (n - m) (replicate (n - m) None) 0 m (omega (arith, r.0)) (omega arith) ∙ sym (run-take cs 0 m n h r)
 
   pub IsRun-dropped : (cs : List (Option X)) (m n : ℕ) → m ≤ n → IsRun cs 0 n → IsRun (with_run cs m (n - m) (replicate (n - m) None)) 0 m
-  IsRun-dropped cs m n h r =
-      IsRun-with-below cs m (n - m) (replicate (n - m) None) 0 m (omega (arith, r.0)) (length-replicate (n - m) None) (omega arith) (IsRun-part cs 0 n 0 m (omega arith) (omega arith) r)
+  IsRun-dropped cs m n h r = IsRun-same cs (with_run cs m (n - m) (replicate (n - m) None)) 0 m (grind (arith, r.0, length-with_run, length-replicate)) (grind (arith, r.0, run-with-below)) (IsRun-part cs 0 n 0 m (omega arith) (omega arith) r)
 
   -- a move leaves a run unchanged that is before both runs, after both, or between them
   pub run-moved-above : (cs : List (Option X)) (from to n a k : ℕ) → from + n ≤ length cs → to + n ≤ length cs → from + n ≤ a → to + n ≤ a → run (moved cs from to n) a k ≡ run cs a k
@@ -132,13 +128,10 @@ module _ {X : Type 0} where
 
   -- the last `by` values of the first k moved to a place at or above them, and the first `by` after k moved down to them
   pub run-shifted_down : (cs : List (Option X)) (k from by : ℕ) → k ≤ from → IsRun cs 0 k → IsRun cs from by → run (moved cs from k by) 0 (k + by) ≡ run cs 0 k ++ run cs from by
-  run-shifted_down cs k from by h r s =
-      let ds : List (Option X) = moved cs from k by in
-      run-split ds 0 k k by (k + by) (omega arith) refl ∙ ap (λ ys. ys ++ run ds k by) (run-moved-below cs from k by 0 k s.0 (omega (arith, s.0)) (omega arith) (omega arith)) ∙ ap (λ ys. run cs 0 k ++ ys) (run-moved cs from k by s (omega (arith, s.0)))
+  run-shifted_down cs k from by h r s = grind (arith, s.0, run-split (moved cs from k by) 0 k k by (k + by), run-moved-below, run-moved)
 
   pub IsRun-shifted_down : (cs : List (Option X)) (k from by : ℕ) → k ≤ from → IsRun cs 0 k → IsRun cs from by → IsRun (moved cs from k by) 0 (k + by)
-  IsRun-shifted_down cs k from by h r s =
-      IsRun-long (moved cs from k by) 0 (k + by) (ap length (run-shifted_down cs k from by h r s) ∙ length-append (run cs 0 k) (run cs from by) ∙ omega (arith, length-run cs 0 k r, length-run cs from by s)) (omega (arith, s.0, length-moved cs from k by s.0 (omega (arith, s.0))))
+  IsRun-shifted_down cs k from by h r s = IsRun-long (moved cs from k by) 0 (k + by) (grind (arith, run-shifted_down, length-append, length-run)) (grind (arith, s.0, length-moved))
 
   pub run-shifted_up-below : (cs : List (Option X)) (k to by : ℕ) → by ≤ k → k - by ≤ to → to + by ≤ length cs → IsRun cs 0 k → run (moved cs (k - by) to by) 0 (k - by) ≡ take (k - by) (run cs 0 k)
   run-shifted_up-below cs k to by h l t r = run-moved-below cs (k - by) to by 0 (k - by) (omega (arith, r.0)) t (omega arith) (omega arith) ∙ sym (run-take cs 0 (k - by) k (omega arith) r)
@@ -157,18 +150,9 @@ module _ {X : Type 0} where
   drop-put_next cs n c = drop-set-lt (n + 1) cs n c (omega arith) ∙ sym (drop-drop 1 n cs)
 
   pub drop-with-first : (cs : List (Option X)) (n : ℕ) (ys : List (Option X)) → n ≤ length cs → length ys ≡ n → drop n (with_run cs 0 n ys) ≡ drop n cs
-  drop-with-first cs n ys h e = ap (λ k. drop k (with_run cs 0 n ys)) (sym (zero-add n)) ∙ drop-with cs 0 n ys (omega arith) e ∙ ap (λ k. drop k cs) (zero-add n)
+  drop-with-first cs n ys h e = grind (arith, drop-with cs 0 n ys)
 
   -- what the loops over arrays find: the values that are still to be moved are where they were
-  pub left_next : (qs : List (Option X)) (from n k m : ℕ) → IsRun qs from n → k + m ≤ n → IsRun (with_run qs from k (replicate k None)) (from + k) m
-  left_next qs from n k m r h = IsRun-with-above qs from k (replicate k None) (from + k) m (omega (arith, r.0)) (length-replicate k None) (omega arith) (IsRun-part qs from n (from + k) m (omega arith) (omega arith) r)
-
-  pub shifted_down_next : (cs : List (Option X)) (from to k a m n : ℕ) → IsRun cs from n → to ≤ from → from + k ≤ a → a + m ≤ from + n → IsRun (moved cs from to k) a m
-  shifted_down_next cs from to k a m n r low h l = IsRun-moved-above cs from to k a m (omega (arith, r.0)) (omega (arith, r.0)) h (omega arith) (IsRun-part cs from n a m (omega arith) l r)
-
-  pub shifted_down_first : (cs : List (Option X)) (i n k : ℕ) → IsRun cs i n → k ≤ n → IsRun cs i k
-  shifted_down_first cs i n k r h = IsRun-part cs i n i k (omega arith) (omega arith) r
-
   pub shifted_up_next : (cs : List (Option X)) (by n left from m : ℕ) → IsRun cs 0 n → by + n ≤ length cs → left ≤ n → from + m ≤ left → IsRun (moved cs left (by + left) (n - left)) from m
   shifted_up_next cs by n left from m r room h l = IsRun-moved-below cs left (by + left) (n - left) from m (omega (arith, room)) (omega arith) l (omega arith) (IsRun-part cs 0 n from m (omega arith) (omega arith) r)
 
@@ -189,11 +173,11 @@ module _ {X : Type 0} where
   pub shifted_up_none : (cs : List (Option X)) (by n : ℕ) → by + n ≤ length cs → moved cs n (by + n) (n - n) ≡ cs
   shifted_up_none cs by n room = let none : n - n ≡ 0 = omega arith in ap (moved cs n (by + n)) none ∙ moved_none cs n (by + n) (omega arith) (omega arith)
 
-  pub ruleset shifted_down_in_arrays = (lengths, length-drop, shifted_down_next, shifted_down_first, moved_on_down, moved_none)
+  pub ruleset shifted_down_in_arrays = (lengths, length-drop, IsRun-moved-above, IsRun-part, moved_on_down, moved_none)
 
   pub ruleset shifted_up_in_arrays = (lengths, shifted_up_next, shifted_up_first, moved_on_up, shifted_up_none)
 
-  pub ruleset put_in_arrays = (lengths, with_none, left_next, left_more, put_more)
+  pub ruleset put_in_arrays = (lengths, with_none, IsRun-with-above, IsRun-part, left_more, put_more)
 
 module _ {X A : Type 0} where
   pub run-reserved : (size : ℕ) (old : Block X A) (n k requested : ℕ) (new : Block X A) → Reserves size old n k requested new → run new.places 0 n ≡ run old.places 0 n

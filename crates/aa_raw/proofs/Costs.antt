@@ -1,10 +1,6 @@
 -- How many blocks growth allocates while elements are added, and how many places it holds.
-use Rattle.std.specs.Prelude.{◌≡◌, ◌≤◌, ◌<◌, ◌+◌, ◌*◌, ◌^◌, ℕ, suc, max}
-use Rattle.std.proofs.Common.{arith}
-use mathlib.Core.Path.{ap, ◌∙◌}
-use Rattle.std.proofs.Math.Nat.{pow-succ', mul_assoc, mul-le-mul_left}
-use Rattle.aa_raw.specs.Growth.{amortized}
-use Rattle.aa_raw.specs.Growths.{FewBlocks, most_held}
+use Rattle.aa_raw.proofs.Common.{amortized, ap, arith, max, mul-le-mul_left, mul_assoc, pow-succ', ℕ, ◌*◌, ◌+◌, ◌<◌, ◌^◌, ◌∙◌, ◌≡◌, ◌≤◌}
+use Rattle.aa_raw.specs.Growths.{FewBlocks}
 use Rattle.aa_raw.specs.declared.raw_vec.Growth.{Growth}
 use Rattle.aa_raw.specs.declared.raw_vec.Growth.TheVariants.{Doubling, Sparing, InPlace}
 
@@ -55,8 +51,3 @@ pub FewBlocks-more : (G : Growth) (blocks m n : ℕ) → m ≤ n → FewBlocks G
 FewBlocks-more Doubling blocks m n le h = omega (arith, le, h)
 FewBlocks-more Sparing blocks m n le h = omega (arith, h, mul-le-mul_left {m = max 4 (9 * m)} {n = max 4 (9 * n)} (2 ^ blocks) (omega (arith, le)))
 FewBlocks-more InPlace blocks m n le h = omega (arith, le, h)
-
-pub FewPlaces-more : (G : Growth) (blocks c d : ℕ) → c ≤ d → FewPlaces G blocks c → FewPlaces G blocks d
-FewPlaces-more Doubling blocks c d le h = omega (arith, le, h)
-FewPlaces-more Sparing blocks c d le h = omega (arith, h, mul-le-mul_left {m = max 2 (3 * c)} {n = max 2 (3 * d)} (2 ^ blocks) (omega (arith, le)))
-FewPlaces-more InPlace blocks c d le h = omega (arith, le, h)

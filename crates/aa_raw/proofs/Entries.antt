@@ -1,9 +1,7 @@
 -- Borrowed entries: the values of places, and how places are cut into entries and room. Assumes `Logic` where it speaks of memory.
 --     kept, refilled      places keep their own values;  the values of refilled places refill them so again
 --     taken               what the entries are once one of them has come back with another value
-use Rattle.aa_raw.proofs.Common.{ !, Fml, Goal, Item, List, Logic, None, Option, Ptr, RattleType, Seq, Some, Step, Ura, Val, Valss, [], ap, block_ptr, done, each, ent, feq_i, feq_l, fjoin, flt_i, flt_l, fpack, fpick, froom, fsep, fsplit, ftrue, get_or, id⊢, in_a_block, keep, length, lone, lose, move, never, nothing, of_list, place_owns, ptr_val, qed, raw_ty as raw, refl, rewrite, row_owns, sem, sep, shape, slice_set, split, step, subst, suc, sym, type_size, use1, use2, vcons, vnil, vptr, vstruct, within, zero, ‵, ℕ, ◌$◌, ◌*◌, ◌++◌, ◌+◌, ◌<◌, ◌^◌, ◌∙◌, ◌∵◌, ◌∷◌, ◌≡◌, ◌⊛◌}
-use Rattle.aa_raw.proofs.Access.{word}
-use Rattle.aa_raw.specs.contracts.row.Row as C
+use Rattle.aa_raw.proofs.Common.{ !, Fml, List, Logic, None, Option, RattleType, Some, Ura, [], ap, done, each, ent, fjoin, froom, fsep, fsplit, ftrue, get_or, keep, length, lone, move, nothing, place_owns, qed, raw_ty as raw, refl, same_Some, sem, sep, slice_set, split, suc, type_size, use1, use2, zero, ‵, ℕ, ◌$◌, ◌*◌, ◌+◌, ◌∙◌, ◌∵◌, ◌∷◌, ◌≡◌, ◌⊛◌}
 use Rattle.aa_raw.specs.Entries.{Entry, entry_owns, values_of, with_values}
 
 module _ {K V : Type 0} where
@@ -24,23 +22,14 @@ module _ {K V : Type 0} where
   length-with_values (Some e ∷ cs) [] = ap suc (length-with_values cs [])
   length-with_values (Some e ∷ cs) (w ∷ ws) = ap suc (length-with_values cs ws)
 
-  abbrev key_or : K → Option (K × V) → K
-  key_or k None = k
-  key_or k (Some e) = e.0
-
-  abbrev IsEmpty : Option (K × V) → Type 0
-  IsEmpty None = Unit {0}
-  IsEmpty (Some e) = ⊥
-
   -- the places where the i-th is out, and has come back
   abbrev pub back_at : List (Option (K × V)) → ℕ → K → List V → V → List (Option (K × V))
   back_at cs i k ws w = slice_set (with_values (slice_set cs i None) ws) i (Some (k, w))
 
   pub taken : (cs : List (Option (K × V))) (i : ℕ) (k : K) (v : V) → get_or cs i None ≡ Some (k, v) → (ws : List V) (w : V) → with_values cs (values_of (back_at cs i k ws w)) ≡ back_at cs i k ws w
   taken [] i k v is ws w = refl
-  taken (None ∷ cs) zero k v is ws w = absurd (subst IsEmpty is tt)
-  taken (Some e ∷ cs) zero k v is ws w = let same : e.0 ≡ k = ap (key_or k) is in
-      ap (λ ds. Some (e.0, w) ∷ ds) (refilled cs ws) ∙ ap (λ c. Some (c, w) ∷ with_values cs ws) same
+  taken (None ∷ cs) zero k v is ws w = cc
+  taken (Some e ∷ cs) zero k v is ws w = ap (λ ds. Some (e.0, w) ∷ ds) (refilled cs ws) ∙ ap (λ (p : K × V). Some (p.0, w) ∷ with_values cs ws) (same_Some e (k, v) is)
   taken (None ∷ cs) (suc i) k v is ws w = ap (λ ds. None ∷ ds) (taken cs i k v is ws w)
   taken (Some e ∷ cs) (suc i) k v is [] w = ap (λ ds. Some e ∷ ds) (taken cs i k v is [] w)
   taken (Some e ∷ cs) (suc i) k v is (x ∷ ws) w = ap (λ ds. Some (e.0, x) ∷ ds) (taken cs i k v is ws w)
@@ -78,24 +67,3 @@ module _ (K V : RattleType) {M : Type 1} {𝓤 : Ura M} (𝓛 : Logic 𝓤) (b o
       use2 𝓛 (‵ (each Spot (suc i) (with_values cs []))) (entries_in cs [] (suc i)) $ keep ! (2 ∷ 0 ∷ []) $ fjoin ! $ done !
   entries_in (Some e ∷ cs) (w ∷ ws) i = qed 𝓛 (‵ (each Held i (Some (e.0, w) ∷ with_values cs ws)) ∷ ‵ (fsep ftrue (each Room (suc i) cs)) ∷ []) ∵ fsplit ! $ move ! (2 ∷ []) $ fsplit ! $ move ! (3 ∷ 1 ∷ []) $
       use2 𝓛 (‵ (each Spot (suc i) (with_values cs ws))) (entries_in cs ws (suc i)) $ keep ! (2 ∷ 0 ∷ []) $ fjoin ! $ done !
-
--- What a row of entries owns is its places, in a block, and the one word that leads there.
-module _ (K V : RattleType) where
-  abbrev pub Rows : RattleType
-  Rows = C.the_row (Entry K V)
-
-  abbrev pub Small : Rows.Denot → Type 0
-  Small d = length d.places * type_size (Entry K V) < 2 ^ 63
-
-module _ (K V : RattleType) {M : Type 1} {𝓤 : Ura M} {𝓛 : Logic 𝓤} {N : Type 0} {Γ : List (Item 𝓤)} {G : Goal 𝓤 𝓛.H} where
-  pub rows_had : N → (d : (Rows K V).Denot) (vs : List Val) → ((b o : ℕ) → d.ptr ≡ block_ptr b o → vs ≡ word b o ∷ [] → Small K V d → Seq N 𝓛 (‵ (each (Spot K V 𝓛 b o) 0 d.places) ∷ Γ) G)
-      → Seq N 𝓛 (‵ ((Rows K V).own_val d vs) ∷ Γ) G
-  rows_had t d vs k = fsplit t $ fpick t (λ uss. fsplit t $ feq_l t (λ one. fsplit t $ feq_l t (λ is. lose t $
-      in_a_block t d.ptr (λ p. row_owns (Entry K V) p d.places) (id⊢ 𝓤 (never 𝓤)) (λ b o lies. fsplit t $ flt_l t (λ small.
-      k b o lies (one ∙ ap (λ (ws : List Val). vstruct (of_list (ws ++ [])) ∷ []) is ∙ ap (λ (p : Ptr). vstruct (vcons (ptr_val p) vnil) ∷ []) lies) small)))))
-
-  pub rows_made : N → (d : (Rows K V).Denot) (b o : ℕ) → d.ptr ≡ block_ptr b o → Small K V d → Step N 𝓛 (‵ ((Rows K V).own_val d (word b o ∷ [])) ∷ Γ) G (‵ (each (Spot K V 𝓛 b o) 0 d.places) ∷ Γ) G
-  rows_made t d b o lies small = step (λ s. flt_i t (length d.places * type_size (Entry K V)) (2 ^ 63) small $ fjoin t $
-      nothing t $ feq_i t (List Val) (vptr b o ∷ []) (vptr b o ∷ []) refl $ fjoin t $ feq_i t (List Val) (word b o ∷ []) (word b o ∷ []) refl $ fjoin t $
-      fpack t (Valss (shape (C.the_type (Entry K V))).fields) (within (shape (C.the_type (Entry K V))) (block_ptr b o, tt) (word b o ∷ [])) (vptr b o ∷ [], tt) $ fjoin t $
-      rewrite t 0 (λ (p : Ptr). ‵ ((Rows K V).own_val (record { ptr = p; places = d.places }) (word b o ∷ []))) (sym lies) refl $ s)

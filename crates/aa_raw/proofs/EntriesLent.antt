@@ -1,28 +1,16 @@
 -- The entries of a block are lent: its borrow is cut into one of their values, and the block follows. Assumes `Logic`.
 --     opens_block      the block behind a `&mut` is its places, the word that leads there, and the way back from both
 --     lends_all        from there, the values borrowed under a name of their own, and what the block follows
-use Rattle.aa_raw.proofs.Common.{ !, BodyAt as Body, Fml, GName, Goal, Gv, Item, Laws, Lft, List, Logic, Option, RattleType, SProp, Seq, Share, Soaks, Ura, Val, [], ap, await, block_ptr, by, cell_at, done, each, ent, fauth, fbor, fjoin, flft, fobor, fobs, follows, fpack, fpick, fsep, flt_i, fsplit, full_share, group, id⊢, keep, later, length, lone, lose, mem, move, param, param_laws, part_at, part_of, pick, qed, raw, refl, rewrite, sem, sep, some, split, split3, subst, sym, type_size, use0, use1, use2, usize, with_places, ‵, ℕ, ◌$◌, ◌*◌, ◌+◌, ◌<◌, ◌^◌, ◌∙◌, ◌∵◌, ◌∷◌, ◌≡◌, ◌⊛◌}
-use base.Logic.{emp}
-use base.Stored.{coded_list}
+use Rattle.aa_raw.proofs.Common.{ !, Block, BodyAt as Body, Fml, GName, Ghosts, Goal, Gv, Item, Laws, Lft, List, Logic, Member, Option, PartsBack, RattleType, SProp, SemTy, Seq, Share, Soaks, Ura, Val, [], ap, await, block_ptr, by, cell_at, coded_list, done, each, emp, ent, fauth, fbor, field_back, field_out, fjoin, flft, flt_i, fobor, fobs, follows, fpack, fpick, fsep, fsplit, full_share, group, id⊢, keep, later, length, lone, lose, mem, move, open_ref, param, param_laws, part_at, part_of, pick, qed, raw, refl, rest_at, rewrite, sem, sep, some, split, split3, subst, sym, tuple_laws, type_size, uint_Lawful, use0, use1, use2, usize, w64, with_places, ‵, ℕ, ◌$◌, ◌*◌, ◌+◌, ◌<◌, ◌^◌, ◌∙◌, ◌∵◌, ◌∷◌, ◌≡◌, ◌⊛◌}
 use denote.Model.Fields.{Plain-in, plain_out, view_made}
-use denote.Plain.{uint_Lawful}
-use denote.Struct.Members.{Member}
-use denote.Struct.Parts.{PartsBack}
-use denote.Struct.Pick.{field_back, field_out, rest_at}
-use denote.Struct.Tuple.{tuple_laws}
-use mir.Syntax.{w64}
 use types.Follow.{after, takes_part}
-use types.Mut.{open_ref}
-use types.SemTy.{SemTy}
-use Rattle.std.specs.declared.alloc.Allocator.{Ghosts}
-use Rattle.aa_raw.proofs.Access.{word}
-use Rattle.aa_raw.proofs.Entries.{Held, Room, Rows, Spot, entries_in, entries_out, kept, length-with_values, refilled, rows_had, rows_made}
+use Rattle.aa_raw.proofs.Access.{row_had, row_made, word}
+use Rattle.aa_raw.proofs.Entries.{Held, Room, Spot, entries_in, entries_out, kept, length-with_values, refilled}
 use Rattle.aa_raw.proofs.counter.Counter.TheLaws as counter_laws
 use Rattle.aa_raw.proofs.counter.GrowthCounters.TheLaws as growth_counters_laws
 use Rattle.aa_raw.proofs.raw_vec.RawVec.TheLaws as block_laws
 use Rattle.aa_raw.proofs.row.Claim.TheLaws as claim_laws
 use Rattle.aa_raw.proofs.row.Row.TheLaws as row_laws
-use Rattle.aa_raw.specs.Block.{Block}
 use Rattle.aa_raw.specs.Entries.{Entry, Values, entries_owned, values_of, with_values}
 use Rattle.aa_raw.specs.EntriesLends.{with_values_of}
 use Rattle.aa_raw.specs.contracts.counter.Counter as counter
@@ -30,6 +18,7 @@ use Rattle.aa_raw.specs.contracts.counter.GrowthCounters as growth_counters
 use Rattle.aa_raw.specs.contracts.raw_vec.RawVec as block
 use Rattle.aa_raw.specs.contracts.raw_vec.RawVec.TheInside as inside
 use Rattle.aa_raw.specs.contracts.row.Claim as claim
+use Rattle.aa_raw.specs.contracts.row.Row as row
 use Rattle.aa_raw.specs.declared.raw_vec.RawVec.TheView.{view, invariant}
 
 module _ (X Y Z : RattleType) (g : Ghosts Z.Denot) where
@@ -52,7 +41,7 @@ module _ (X Y Z : RattleType) (g : Ghosts Z.Denot) where
   of_row R = record { row = R; ty = lone R.mir }
 
   abbrev pub ms : List Member
-  ms = of_row (Rows K V) ∷ of_row usize ∷ of_row (claim.the_row (Entry K V) A g) ∷ of_row growth_counters.the_row ∷ of_row counter.the_row ∷ of_row counter.the_row ∷ of_row A ∷ []
+  ms = of_row (row.the_row (Entry K V)) ∷ of_row usize ∷ of_row (claim.the_row (Entry K V) A g) ∷ of_row growth_counters.the_row ∷ of_row counter.the_row ∷ of_row counter.the_row ∷ of_row A ∷ []
 
 module _ (X Y Z : RattleType) (LX : Laws X) (LY : Laws Y) (LZ : Laws Z) (g : Ghosts Z.Denot) {M : Type 1} {𝓤 : Ura M} (𝓛 : Logic 𝓤) (rb ro : ℕ) where
   abbrev pair_laws : Laws (Entry (K X Y Z g) (V X Y Z g))
@@ -61,7 +50,7 @@ module _ (X Y Z : RattleType) (LX : Laws X) (LY : Laws Y) (LZ : Laws Z) (g : Gho
   abbrev pub Back : (In X Y Z g).Denot → SProp 𝓤
   Back a = sep 𝓤 (sem 𝓛 (rest_at full_share (ms X Y Z g) 0 (a.row, (a.word, (a.claim, (a.grown, (a.written, (a.runs, (a.alloc, tt))))))) rb ro 0)) (PartsBack 𝓛 full_share [] (ms X Y Z g) rb ro)
 
-  pub field_of : (a : (In X Y Z g).Denot) → ent 𝓤 (sem 𝓛 (part_at (In X Y Z g) full_share a rb ro)) (sep 𝓤 (sem 𝓛 (part_at (Rows (K X Y Z g) (V X Y Z g)) full_share a.row rb (ro + 0))) (Back a))
+  pub field_of : (a : (In X Y Z g).Denot) → ent 𝓤 (sem 𝓛 (part_at (In X Y Z g) full_share a rb ro)) (sep 𝓤 (sem 𝓛 (part_at (row.the_row (Entry (K X Y Z g) (V X Y Z g))) full_share a.row rb (ro + 0))) (Back a))
   unfolding part_of
   field_of a = field_out 𝓛 full_share [] (ms X Y Z g) (
     (row_laws.the_row_laws (Entry (K X Y Z g) (V X Y Z g)) pair_laws).lawful 𝓛,
@@ -79,7 +68,7 @@ module _ (X Y Z : RattleType) (LX : Laws X) (LY : Laws Y) (LZ : Laws Z) (g : Gho
   P = Entry (K X Y Z g) (V X Y Z g)
 
   abbrev Rw : RattleType
-  Rw = Rows (K X Y Z g) (V X Y Z g)
+  Rw = row.the_row P
 
   abbrev D : Type 0
   D = Block P.Denot Z.Denot
@@ -109,7 +98,7 @@ module _ (X Y Z : RattleType) (LX : Laws X) (LY : Laws Y) (LZ : Laws Z) (g : Gho
         let ok : invariant P.Denot Z.Denot g n = record { claim = seen.1.claim; long = long ∙ ap (λ (z : D). length z.places) (sym seen.0) ∙ seen.1.long } in
         qed 𝓛 (‵ (held b o cs) ∷ ‵ (rooms b o d.places) ∷ ‵ (Cell b o) ∷ raw (Back a) ∷ []) ∵
         use2 𝓛 (‵ (each (Spot (K X Y Z g) (V X Y Z g) 𝓛 b o) 0 cs)) (entries_in (K X Y Z g) (V X Y Z g) 𝓛 b o d.places ws 0) $
-        rows_made (K X Y Z g) (V X Y Z g) ! r b o lies (subst (λ k. k * type_size P < 2 ^ 63) (sym long) small) $ move ! (1 ∷ 0 ∷ []) $ fjoin ! $
+        row_made P ! r b o lies (subst (λ k. k * type_size P < 2 ^ 63) (sym long) small) $ move ! (1 ∷ 0 ∷ []) $ fjoin ! $
         fpack ! (List Val) (λ us. fsep (cell_at full_share Rw.mir us rb (ro + 0)) (Rw.own_val r us)) (word b o ∷ []) $
         use2 𝓛 (‵ (part_at (In X Y Z g) full_share n rb ro)) (field_back 𝓛 full_share [] (ms X Y Z g) (r, (a.word, (a.claim, (a.grown, (a.written, (a.runs, (a.alloc, tt))))))) rb ro 0) $
         by ! (Plain-in (Bk X Y Z g) (In X Y Z g) (block_laws.the_opens P (A X Y Z g) g) 𝓛 full_share (with_places d cs) n
@@ -156,7 +145,7 @@ module _ (X Y Z : RattleType) (LX : Laws X) (LY : Laws Y) (LZ : Laws Z) (g : Gho
     opens_block t z d k = open_ref t z (mem (Bk X Y Z g)) {x = d} {b = rb} {o = ro} $
         use1 𝓛 (some (λ (x : (a : (In X Y Z g).Denot) × Viewed d a). ‵ (part_at (In X Y Z g) full_share x.0 rb ro))) (plain_out (Bk X Y Z g) (In X Y Z g) (block_laws.the_opens P (A X Y Z g) g) 𝓛 full_share d rb ro) $ pick t (λ x.
         use1 𝓛 (‵ (part_at Rw full_share x.0.row rb (ro + 0)) ⊛ raw (Back x.0)) (field_of x.0) $ split t $ fpick t (λ vs. fsplit t $ move t (1 ∷ []) $
-        rows_had (K X Y Z g) (V X Y Z g) t x.0.row vs (λ b o lies is small. let same = ap (λ (w : D). w.places) x.1.0 in
+        row_had P t x.0.row vs (λ b o lies is small. let same = ap (λ (w : D). w.places) x.1.0 in
         move t (1 ∷ []) $ rewrite t 0 (λ (ws : List Val). ‵ (cell_at full_share Rw.mir ws rb (ro + 0))) is refl $ move t (1 ∷ []) $
         rewrite t 0 (λ (cs : List (Option P.Denot)). ‵ (each (Spot (K X Y Z g) (V X Y Z g) 𝓛 b o) 0 cs)) same refl $
         k x.0 x.1 b o lies (subst (λ (cs : List (Option P.Denot)). length cs * type_size P < 2 ^ 63) same small))))

@@ -1,18 +1,7 @@
 -- One entry is taken out of those that are lent: a `&` to its key and a `&mut` to its value. Assumes `Logic`.
 --     takes_entry      from what borrowed entries own, and the token of their lifetime
-use Rattle.aa_raw.proofs.Common.{ !, BodyAt as Body, Fml, GName, Goal, Item, Laws, Lft, List, Logic, MutRef, None, Option, RattleType, Seq, Share, Soaks, Some, Ura, Val, [], arith, await, block_ptr, done, each, ent, fbor, feq_i, fjoin, fjoin3, flft, flt_i, fobs, fsep, full_share, get_or, group, hide, id⊢, keep, later, length, length-set, lone, lose, mem, move, nothing, param, param_laws, part_at, part_of, pick, qed, raw, refl, rewrite, sem, sep, slice_set, some, split, split3, subst, sym, type_size, use0, use1, use2, vptr, ‵, ℕ, ◌$◌, ◌*◌, ◌+◌, ◌<◌, ◌^◌, ◌∵◌, ◌∷◌, ◌≡◌, ◌⊛◌}
-use base.Fml.{Incl, Incl-refl, fseps, ftrue}
-use base.Logic.{emp}
-use base.Stored.{coded_list}
-use denote.Ref.{ShrRef}
-use denote.Struct.Members.{Member}
-use denote.Struct.Parts.{PartsBack}
-use denote.Struct.Pick.{field_back, field_out}
-use mir.Syntax.{Lifetime}
-use prog.Memory.{align, size, up}
+use Rattle.aa_raw.proofs.Common.{ !, BodyAt as Body, Fml, GName, Goal, Incl, Incl-refl, Item, Laws, Lft, Lifetime, List, Logic, Member, MutRef, None, Option, PartsBack, RattleType, SemTy, Seq, Share, ShrRef, Soaks, Some, Ura, Val, [], align, arith, await, block_ptr, coded_list, done, each, emp, ent, fbor, feq_i, field_back, field_out, fjoin, fjoin3, flft, flt_i, fobs, fsep, fseps, ftrue, full_share, get_or, group, hide, id⊢, keep, later, length, length-set, lone, lose, mem, move, nothing, open_ref, param, param_laws, part_at, part_of, pick, qed, raw, refl, rewrite, sem, sep, slice_set, some, split, split3, subst, sym, ty_size as size, type_size, up, use0, use1, use2, vptr, ‵, ℕ, ◌$◌, ◌*◌, ◌+◌, ◌<◌, ◌^◌, ◌∵◌, ◌∷◌, ◌≡◌, ◌⊛◌}
 use types.Follow.{after, after₂, takes_beside, takes_two}
-use types.Mut.{open_ref}
-use types.SemTy.{SemTy}
 use Rattle.aa_raw.proofs.Entries.{Held, back_at, kept, length-with_values, taken}
 use Rattle.aa_raw.proofs.Spots.{around, lift_one, set_one}
 use Rattle.aa_raw.specs.Entries.{Entry, Values, entries_owned, values_of, with_values}

@@ -12,24 +12,11 @@ module _ {T : Type 0} where
     inserted i x = slice_set (moved cs i (i + 1) (n - i)) i (Some x)
 
     module _ (i : ℕ) (x : T) (within : i ≤ n) (room : n < length cs) where
-      long : length (moved cs i (i + 1) (n - i)) ≡ length cs
-      long = length-moved cs i (i + 1) (n - i) (omega arith) (omega arith)
-
       pub length-inserted : length (inserted i x) ≡ length cs
-      length-inserted = length-set (moved cs i (i + 1) (n - i)) i (Some x) ∙ long
+      length-inserted = grind (arith, length-set, length-moved)
 
       pub run-inserted : run (inserted i x) 0 (n + 1) ≡ insert (run cs 0 n) i x
-      run-inserted =
-          let k : ℕ = n - i in
-          let M : List (Option T) = moved cs i (i + 1) k in
-          let ds : List (Option T) = inserted i x in
-          let part : IsRun cs i k = IsRun-part cs 0 n i k (omega arith) (omega arith) front in
-          let before : run ds 0 i ≡ take i (run cs 0 n) = run-set-above M 0 i i (Some x) (omega (arith, long)) (omega arith) ∙ run-moved-below cs i (i + 1) k 0 i (omega arith) (omega arith) (omega arith) (omega arith) ∙ sym (run-take cs 0 i n within front) in
-          let here : run ds i 1 ≡ x ∷ [] = run-set-same M i x (omega (arith, long)) in
-          let behind : run ds (i + 1) k ≡ drop i (run cs 0 n) = run-set-below M (i + 1) k i (Some x) (omega arith) ∙ run-moved cs i (i + 1) k part (omega arith) ∙ sym (run-drop cs 0 i i n k (omega arith) (omega arith) front) in
-          run-split ds 0 i i (k + 1) (n + 1) (omega arith) (omega arith)
-          ∙ ap (λ ys. run ds 0 i ++ ys) (run-split ds i (i + 1) 1 k (k + 1) refl (omega arith))
-          ∙ (λ t. before t ++ (here t ++ behind t))
+      run-inserted = grind (arith, length-moved, run-split (inserted i x) 0 i i (n - i + 1) (n + 1), run-split (inserted i x) i (i + 1) 1 (n - i) (n - i + 1), run-set-above, run-set-below, run-set-same, run-moved, run-moved-below, run-take cs 0 i n, run-drop cs 0 i i n (n - i), IsRun-part cs 0 n i (n - i))
 
       pub IsRun-inserted : IsRun (inserted i x) 0 (n + 1)
       IsRun-inserted = IsRun-long (inserted i x) 0 (n + 1) (grind (arith, run-inserted, length-append, length-take, length-drop, length-run)) (omega (arith, length-inserted))
@@ -39,70 +26,50 @@ module _ {T : Type 0} where
     removed i = moved (slice_set cs i None) (i + 1) i (n - 1 - i)
 
     module _ (i : ℕ) (within : i < n) where
-      taken : length (slice_set cs i None) ≡ length cs
-      taken = length-set cs i None
-
       -- those after it are still there
       pub IsRun-after : IsRun (slice_set cs i None) (i + 1) (n - 1 - i)
       IsRun-after = IsRun-set-below cs (i + 1) (n - 1 - i) i None (omega arith) (IsRun-part cs 0 n (i + 1) (n - 1 - i) (omega arith) (omega arith) front)
 
       pub length-removed : length (removed i) ≡ length cs
-      length-removed = length-moved (slice_set cs i None) (i + 1) i (n - 1 - i) (omega (arith, taken, front.0)) (omega (arith, taken, front.0)) ∙ taken
+      length-removed = grind (arith, front.0, length-set, length-moved)
 
       pub run-removed : run (removed i) 0 (n - 1) ≡ remove (run cs 0 n) i
-      run-removed =
-          let k : ℕ = n - 1 - i in
-          let ds : List (Option T) = slice_set cs i None in
-          let before : run (removed i) 0 i ≡ take i (run cs 0 n) =
-          run-moved-below ds (i + 1) i k 0 i (omega (arith, taken, front.0)) (omega (arith, taken, front.0)) (omega arith) (omega arith) ∙ run-set-above cs 0 i i None (omega (arith, front.0)) (omega arith) ∙ sym (run-take cs 0 i n (omega arith) front) in
-          let behind : run (removed i) i k ≡ drop (suc i) (run cs 0 n) =
-          run-moved ds (i + 1) i k IsRun-after (omega (arith, taken, front.0)) ∙ run-set-below cs (i + 1) k i None (omega arith) ∙ sym (run-drop cs 0 (i + 1) (suc i) n k (omega arith) (omega arith) front) in
-          run-split (removed i) 0 i i k (n - 1) (omega arith) (omega arith) ∙ (λ t. before t ++ behind t)
+      run-removed = grind (arith, length-set, front.0, run-split (removed i) 0 i i (n - 1 - i) (n - 1), run-moved, run-moved-below, IsRun-after, run-set-above, run-set-below, run-take cs 0 i n, run-drop cs 0 (i + 1) (suc i) n (n - 1 - i))
 
       pub IsRun-removed : IsRun (removed i) 0 (n - 1)
       IsRun-removed = IsRun-long (removed i) 0 (n - 1) (grind (arith, run-removed, length-append, length-take, length-drop, length-run)) (omega (arith, length-removed, front.0))
 
       -- the last one is taken: nothing moves
       pub run-last_removed : (d : T) → i ≡ n - 1 → run (slice_set cs i None) 0 (n - 1) ≡ swap_remove (run cs 0 n) i d
-      run-last_removed d e =
-          let xs : List T = run cs 0 n in
-          run-set-above cs 0 (n - 1) i None (omega (arith, front.0)) (omega arith) ∙ sym (run-take cs 0 (n - 1) n (omega arith) front)
-          ∙ sym (take-set-le (n - 1) xs i (get_or xs (n - 1) d) (omega arith)) ∙ ap (λ k. take (k - 1) (slice_set xs i (get_or xs (k - 1) d))) (sym (length-run cs 0 n front))
+      run-last_removed d e = grind (arith, front.0, run-set-above, run-take, take-set-le, length-run)
 
       -- another is taken: the last one is moved to its place
       abbrev pub swapped : List (Option T)
       swapped = moved (slice_set cs i None) (n - 1) i 1
 
       pub length-swapped : length swapped ≡ length cs
-      length-swapped = length-moved (slice_set cs i None) (n - 1) i 1 (omega (arith, taken, front.0)) (omega (arith, taken, front.0)) ∙ taken
+      length-swapped = grind (arith, front.0, length-set, length-moved)
 
       -- the last one is still there
       pub last-filled : i < n - 1 → IsFilled (slice_set cs i None) (n - 1)
       last-filled h = ap is_some (get_or-set_other cs i (n - 1) None None (λ e. absurd (omega arith))) ∙ first_filled cs n (n - 1) front (omega arith)
 
+      swapped_with : (x d : T) → get_or cs (n - 1) None ≡ Some x → i < n - 1 → run swapped 0 (n - 1) ≡ swap_remove (run cs 0 n) i d
+      swapped_with x d e h =
+          let last : get_or (run cs 0 n) (n - 1) d ≡ x = get_or_from_slice_get (run cs 0 n) (n - 1) x d (slice_get-run cs n (n - 1) x front (omega arith) e) in
+          let places : swapped ≡ slice_set (slice_set cs i (Some x)) (n - 1) None = grind (arith, moved_one, set_comm, set-set, length-set, get_or-set_other, e) in
+          ap (λ l. run l 0 (n - 1)) places
+          ∙ grind (arith, front.0, last, length-set, run-set-above (slice_set cs i (Some x)) 0 (n - 1) (n - 1) None, run-take (slice_set cs i (Some x)) 0 (n - 1) n, IsRun-set cs n i x front, run-set cs n i x front within, length-run cs 0 n front)
+
       pub run-swapped : (d : T) → i < n - 1 → run swapped 0 (n - 1) ≡ swap_remove (run cs 0 n) i d
-      run-swapped d h =
-          let last : ℕ = n - 1 in
-          let xs : List T = run cs 0 n in
-          let v = value_of (get_or cs last None) (first_filled cs n last front (omega arith)) in
-          let y : T = v.0 in
-          let places : swapped ≡ slice_set (slice_set cs i (Some y)) last None =
-          grind (arith, moved_one, set_comm, set-set, length-set, get_or-set_other, v.1) in
-          let last_is : y ≡ get_or xs last d = sym (get_or_from_slice_get xs last y d (slice_get-run cs n last y front (omega arith) v.1)) in
-          ap (λ l. run l 0 last) places
-          ∙ run-set-above (slice_set cs i (Some y)) 0 last last None (omega (arith, front.0, length-set cs i (Some y))) (omega arith)
-          ∙ sym (run-take (slice_set cs i (Some y)) 0 last n (omega arith) (IsRun-set cs n i y front))
-          ∙ ap (take last) (run-set cs n i y front within ∙ ap (slice_set xs i) last_is)
-          ∙ ap (λ k. take (k - 1) (slice_set xs i (get_or xs (k - 1) d))) (sym (length-run cs 0 n front))
+      run-swapped d h = let v = value_of (get_or cs (n - 1) None) (first_filled cs n (n - 1) front (omega arith)) in swapped_with v.0 d v.1 h
 
       -- all others are there
       pub IsRun-last_removed : i ≡ n - 1 → IsRun (slice_set cs i None) 0 (n - 1)
       IsRun-last_removed e = IsRun-pop cs 0 (n - 1) i n (omega arith) (omega arith) front
 
       pub IsRun-swapped : i < n - 1 → IsRun swapped 0 (n - 1)
-      IsRun-swapped h =
-          let d = (value_of (get_or cs i None) (first_filled cs n i front within)).0 in
-          IsRun-long swapped 0 (n - 1) (grind (arith, run-swapped d h, length-take, length-set, length-run)) (omega (arith, length-swapped, front.0))
+      IsRun-swapped h = IsRun-long swapped 0 (n - 1) (grind (arith, run-swapped (value_of (get_or cs i None) (first_filled cs n i front within)).0, length-take, length-set, length-run)) (omega (arith, length-swapped, front.0))
 
   -- the first of the first n taken, and those after it moved down by one
   module _ (cs : List (Option T)) (n : ℕ) (some : 0 < n) (front : IsRun cs 0 n) where
@@ -113,7 +80,6 @@ module _ {T : Type 0} where
     IsRun-removed_first = IsRun-moved (slice_set cs 0 None) 1 0 (n - 1) IsRun-after_first (omega (arith, length-set cs 0 None, front.0))
 
     pub run-removed_first : (x : T) → get_or cs 0 None ≡ Some x → x ∷ run (moved (slice_set cs 0 None) 1 0 (n - 1)) 0 (n - 1) ≡ run cs 0 n
-    run-removed_first x e =
-        ap (λ ys. x ∷ ys) (run-moved (slice_set cs 0 None) 1 0 (n - 1) IsRun-after_first (omega (arith, length-set cs 0 None, front.0))) ∙ sym (run-shift cs 0 (n - 1) x 1 n refl (omega arith) front e)
+    run-removed_first x e = grind (arith, run-moved (slice_set cs 0 None) 1 0 (n - 1) IsRun-after_first, length-set, front.0, run-shift cs 0 (n - 1) x 1 n)
 
 pub ruleset at_positions = (nat_tests, lengths, length-run, length-set, run-of_none, IsRun-rest, run-reserved, IsRun-reserved, first_filled, slice_get-run, length-inserted, run-inserted, IsRun-inserted, IsRun-after, length-removed, run-removed, IsRun-removed, IsRun-after_first, run-removed_first, IsRun-removed_first, run-last_removed, IsRun-last_removed, last-filled, length-swapped, run-swapped, IsRun-swapped, IsRun-set, run-set, run-at)

@@ -1,18 +1,14 @@
 -- A row and its claim as the block that an allocator resizes, and conversely. Assumes `Logic`.
---     more_bytes, never_zst      of elements that take bytes
+--     never_zst      elements that take bytes are no ZSTs
 --     block_of_row, row_of_block      places of which the first are filled are a block with these values, and a block with values is these and empty places
 --     opens_block, closes_block      the two `&mut` are opened to a block, and closed over another
-use Rattle.aa_raw.proofs.Common.{ !, Al, Array, BodyAt as Body, El, Fml, GName, Goal, Gv, IsCapacity, Item, Lft, List, Logic, None, Ptr, R, Seq, Share, Soaks, Some, Step, Ty, Ura, Val, [], add_times, ap, arith, array_apart, array_of, as_raw, as_written, block_ptr, block_with_items, cell_at, cells, check, closes, done, drop, el_x, elτ, ent, fauth, fbor, fjoin3, flft, fobor, fobs, froom, fsplit3, full_share, given, guard, learn, length, length-append, length-drop, length-map, length-replicate, length-take, map, mem, move, opens, part_at, qed, refl, replicate, rewrite, row, sem, sep, split, step, subst, sym, sz, take, take-append-drop, token, ty_array, use1, use2, whole_array, whole_in, whole_out, ‵, ℕ, ◌$◌, ◌*◌, ◌++◌, ◌+◌, ◌-◌, ◌<◌, ◌^◌, ◌∙◌, ◌∵◌, ◌∷◌, ◌≡◌, ◌≤◌, ◌⊛◌}
+use Rattle.aa_raw.proofs.Common.{ !, Al, Array, BodyAt as Body, El, Fml, GName, Goal, Gv, IsCapacity, Item, Lft, List, Logic, None, Ptr, R, Seq, Share, Soaks, Some, Step, Ty, Ura, Val, [], ap, arith, array_apart, array_of, as_raw, as_written, block_ptr, block_with_items, cell_at, cells, check, closes, done, drop, el_x, elτ, ent, fauth, fbor, fjoin3, flft, fobor, fobs, froom, fsplit3, full_share, given, guard, learn, length, length-append, length-drop, length-map, length-replicate, length-take, map, mem, move, opens, part_at, qed, refl, replicate, rewrite, row, sem, sep, split, step, subst, sym, sz, take, take-append-drop, token, ty_array, use1, use2, whole_array, whole_in, whole_out, ‵, ℕ, ◌$◌, ◌*◌, ◌++◌, ◌+◌, ◌-◌, ◌<◌, ◌^◌, ◌∙◌, ◌∵◌, ◌∷◌, ◌≡◌, ◌≤◌, ◌⊛◌}
 use Rattle.aa_raw.proofs.Access.{Open, Rw, Small, Word, closes_row, opens_row}
 use Rattle.aa_raw.proofs.Claims.{Cl, Right, claim_had, claim_made, claim_of, mark, right_had, right_made}
 use Rattle.aa_raw.proofs.Spots.{Place, Spot, SpotsFrom, all_room, at, cut_spots, empties, join_spots, start, values_in, values_out}
 
-module _ (k n s : ℕ) (some : 0 < k * s) where
-  pub more_bytes : k ≤ n → 0 < n * s
-  more_bytes le = let e : n ≡ k + (n - k) = omega arith in omega (arith, some, ap (λ (j : ℕ). j * s) e ∙ add_times k (n - k) s)
-
-  pub never_zst : s ≡ 0 → 18446744073709551615 ≤ n
-  never_zst zst = let wrong : 0 < k * 0 = subst (λ (j : ℕ). 0 < k * j) zst some in absurd (omega arith)
+pub never_zst : (k n s : ℕ) → 0 < k * s → s ≡ 0 → 18446744073709551615 ≤ n
+never_zst k n s some zst = let wrong : 0 < k * 0 = subst (λ (j : ℕ). 0 < k * j) zst some in absurd (omega arith)
 
 module _ (E : El) {M : Type 1} {𝓤 : Ura M} (𝓛 : Logic 𝓤) (tok : Ty → Ptr → Fml) (b o len cap : ℕ) where
   -- the right to deallocate the block
@@ -65,7 +61,7 @@ module _ (E : El) (Z : Al) where
 module _ (E : El) (Z : Al) {M : Type 1} {𝓤 : Ura M} {𝓛 : Logic 𝓤} {K : Type 0} {Γ : List (Item 𝓤)} {G : Goal 𝓤 𝓛.H} (h : Z.row.Denot) (n cap rb ro cb co : ℕ) (xs : List (el_x E)) where
   pub opens_block : K → Soaks G → {κ κ' : Lft} {q q' : Share} {γ γ' : GName} (d : (Rw E).Denot) (d' : (Cl E Z).Denot) → (d'.ptr ≡ d.ptr) × (d'.len ≡ cap) × (d'.alloc ≡ h)
       → length d.places ≡ cap → n ≤ cap → 0 < cap * sz E → take n d.places ≡ map Some xs
-      → ((b o : ℕ) → d.ptr ≡ block_ptr b o → Small E d → Seq K 𝓛 (‵ (Filled E Z h n cap xs b o) ∷ ‵ (Word E b o rb ro) ∷ ‵ (Open E κ q γ rb ro) ∷ ‵ (fobs γ ((Rw E).coded.code d)) ∷ ‵ (fauth γ ((Rw E).coded.code d))
+      → ((b o : ℕ) → d.ptr ≡ block_ptr b o → Small (R E) d → Seq K 𝓛 (‵ (Filled E Z h n cap xs b o) ∷ ‵ (Word E b o rb ro) ∷ ‵ (Open E κ q γ rb ro) ∷ ‵ (fobs γ ((Rw E).coded.code d)) ∷ ‵ (fauth γ ((Rw E).coded.code d))
       ∷ ‵ (Mark E Z cb co) ∷ ‵ (OpenClaim E Z κ' q' γ' cb co) ∷ ‵ (fobs γ' ((Cl E Z).coded.code d')) ∷ ‵ (fauth γ' ((Cl E Z).coded.code d')) ∷ Γ) G)
       → Seq K 𝓛 (‵ (fobs γ' ((Cl E Z).coded.code d')) ∷ ‵ (fbor κ' (Body (mem (Cl E Z)) cb co γ')) ∷ ‵ (flft κ' q') ∷ ‵ (fobs γ ((Rw E).coded.code d)) ∷ ‵ (fbor κ (Body (mem (Rw E)) rb ro γ)) ∷ ‵ (flft κ q) ∷ Γ) G
   opens_block t z d d' held all le some filled k = opens t z (Cl E Z) {h = d'} cb co (λ vs. move t (1 ∷ []) $ claim_had E Z t d' vs (λ marked. move t (1 ∷ []) $

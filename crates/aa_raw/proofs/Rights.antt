@@ -1,14 +1,8 @@
 -- A borrow is closed by two rights of a lender. Assumes `Logic`.
 --     both_rights      two rights are a right to both
 --     closes_late      an open borrow is closed by a right, and the way back from what it is a right to
-use Prim.Native.Nat.{ℕ}
-use mathlib.Core.List.{[], ◌∷◌}
-use seplogic.Ra.Ura.{Ura}
-use base.Logic.{ent, sep, emp, wand, wand_i, snd∗, upd_i}
-use base.Fml.{Fml, Lft, Share, ftrue, fsep, fseps, fwand, fupd, fdead, flft, flent}
+use Rattle.aa_raw.proofs.Common.{ !, Fml, Lft, Logic, Share, Ura, [], assume, await, by, done, emp, ent, fdead, fjoin, flent, flft, fsep, fseps, fsplit, ftrue, fupd, fwand, group, keep, later, lose as drop, move, now, qed, raw, sem, sep, snd∗, split, upd_i, updating, use0, use1, use3, wand, wand_i, ‵, ℕ, ◌$◌, ◌∵◌, ◌∷◌, ◌⊛◌}
 use ghost.Rules.{aged}
-use types.Logic.{Logic, sem}
-use types.Kit.{‵, raw, ◌⊛◌, later, await, ◌$◌, ◌∵◌, !, qed, by, move, keep, drop, use0, use1, use3, split, group, assume, fsplit, fjoin, updating, now, done}
 use types.Late.{deep, close_deep}
 
 module _ {M : Type 1} {𝓤 : Ura M} (𝓛 : Logic 𝓤) where

@@ -1,8 +1,7 @@
 -- Lemmas on the values in a run of places.
-use Rattle.aa_raw.proofs.Common.{IsFilled, IsRun, List, None, Option, Some, [], add-zero, ap, arith, cases_lt, drop, drop-drop, drop-set-lt, drop_at, drop_more, get_or, get_or-drop, get_or-set_same, get_or-take, inl, inr, is_some, length, length-append, length-map, length-set, list_all, map, moved, places, refl, rules, run, same_lists, slice_set, somes, subst, suc, sym, take, take-add, take_at, true, with_run, ℕ, ◌++◌, ◌+◌, ◌-◌, ◌<◌, ◌∙◌, ◌∷◌, ◌≡◌, ◌≤◌}
+use Rattle.aa_raw.proofs.Common.{Bool, IsFilled, IsRun, List, None, Option, Some, [], add-zero, ap, arith, cases_lt, drop, drop-drop, drop-set-lt, drop_at, drop_more, filter_map-append, get_or, get_or-drop, get_or-set_same, get_or-take, is_some, length, length-append, length-map, length-set, list_all, map, moved, places, refl, rules, run, same_lists, slice_set, somes, subst, suc, sym, take, take-add, take_at, true, with_run, ℕ, ◌&&◌, ◌++◌, ◌+◌, ◌-◌, ◌<◌, ◌∙◌, ◌∷◌, ◌≡◌, ◌≤◌}
 use Rattle.aa_raw.proofs.Places.{all-map, length-moved, length-with_run, run_filled}
 pub use Rattle.aa_raw.proofs.Places.{length-cut as cut-long}
-use Rattle.std.proofs.lemmas.List.Elements.{filter_map-append}
 
 module _ {X : Type 0} where
   pub somes-map : (xs : List X) → somes (map Some xs) ≡ xs
@@ -59,25 +58,20 @@ module _ {X : Type 0} where
   run-split cs from a m n k e f =
       rw (← e, ← f) (ap somes (take-add m n (drop from cs)) ∙ filter_map-append (λ c. c) (take m (drop from cs)) (take n (drop m (drop from cs))) ∙ ap (λ ds. somes (take m (drop from cs)) ++ somes (take n ds)) (drop-drop m from cs))
 
-  -- places that are all filled are a run, and so are the parts of a run, and two runs in line
-  all-filled : (cs : List (Option X)) → ((i : ℕ) → i < length cs → IsFilled cs i) → list_all is_some cs ≡ true
-  all-filled [] f = refl
-  all-filled (None ∷ cs) f = let e = f 0 (omega arith) in cc
-  all-filled (Some x ∷ cs) f = all-filled cs (λ i h. f (suc i) (omega arith))
+  -- what holds of each place holds of all
+  pub all-each : (p : Option X → Bool) (cs : List (Option X)) → ((i : ℕ) → i < length cs → p (get_or cs i None) ≡ true) → list_all p cs ≡ true
+  all-each p [] f = refl
+  all-each p (c ∷ cs) f = λ i. f 0 (omega arith) i && all-each p cs (λ j h. f (suc j) (omega arith)) i
 
+  -- places that are all filled are a run, and so are the parts of a run, and two runs in line
   pub filled-run : (cs : List (Option X)) (from n : ℕ) → from + n ≤ length cs → ((i : ℕ) → i < n → IsFilled cs (from + i)) → IsRun cs from n
-  filled-run cs from n h f =
-      let long = cut-long cs from n h in (h, all-filled (take n (drop from cs)) (λ i l. ap is_some (get_or-take n (drop from cs) i None (omega arith) ∙ get_or-drop from cs i None) ∙ f i (omega arith)))
+  filled-run cs from n h f = (h, all-each is_some (take n (drop from cs)) (λ i l. grind (arith, cut-long cs from n h, get_or-take, get_or-drop, f i)))
 
   pub IsRun-part : (cs : List (Option X)) (from n a k : ℕ) → from ≤ a → a + k ≤ from + n → IsRun cs from n → IsRun cs a k
-  IsRun-part cs from n a k h l r =
-      filled-run cs a k (omega (arith, r.0)) (λ i b. let e : from + (a - from + i) ≡ a + i = omega arith in subst (λ j. IsFilled cs j) e (run_filled cs from n (a - from + i) r (omega arith)))
+  IsRun-part cs from n a k h l r = filled-run cs a k (omega (arith, r.0)) (λ i b. grind (arith, run_filled cs from n (a - from + i) r))
 
   pub IsRun-joined : (cs : List (Option X)) (from a m n k : ℕ) → from + m ≡ a → m + n ≡ k → IsRun cs from m → IsRun cs a n → IsRun cs from k
-  IsRun-joined cs from a m n k e f r s = filled-run cs from k (omega (arith, s.0)) (λ i h. elim (cases_lt i m) [
-    | inl low ↦ run_filled cs from m i r low
-    | inr high ↦ let j : a + (i - m) ≡ from + i = omega arith in subst (λ j. IsFilled cs j) j (run_filled cs a n (i - m) s (omega arith))
-  ])
+  IsRun-joined cs from a m n k e f r s = filled-run cs from k (omega (arith, s.0)) (λ i h. grind (arith, cases_lt i m, run_filled cs from m i r, run_filled cs a n (i - m) s))
 
   pub IsRun-nil : (cs : List (Option X)) (from : ℕ) → from ≤ length cs → IsRun cs from 0
   IsRun-nil cs from h = IsRun-long cs from 0 (ap length (run-zero cs from)) (omega (arith, h))
@@ -104,18 +98,14 @@ module _ {X : Type 0} where
 
   -- a value written after a run
   pub run-push : (cs : List (Option X)) (from n : ℕ) (x : X) (i k : ℕ) → from + n ≡ i → n + 1 ≡ k → i < length cs → run (slice_set cs i (Some x)) from k ≡ run cs from n ++ x ∷ []
-  run-push cs from n x i k e f l =
-      run-split (slice_set cs i (Some x)) from i n 1 k e f ∙ ap (λ ys. ys ++ run (slice_set cs i (Some x)) i 1) (run-set-above cs from n i (Some x) l (omega arith)) ∙ ap (λ ys. run cs from n ++ ys) (run-set-same cs i x l)
+  run-push cs from n x i k e f l = grind (arith, run-split (slice_set cs i (Some x)) from i n 1 k e f, run-set-above, run-set-same)
 
   pub IsRun-push : (cs : List (Option X)) (from n : ℕ) (x : X) (i k : ℕ) → from + n ≡ i → n + 1 ≡ k → i < length cs → IsRun cs from n → IsRun (slice_set cs i (Some x)) from k
-  IsRun-push cs from n x i k e f l r =
-      IsRun-long (slice_set cs i (Some x)) from k (ap length (run-push cs from n x i k e f l) ∙ length-append (run cs from n) (x ∷ []) ∙ omega (arith, length-run cs from n r)) (omega (arith, length-set cs i (Some x)))
+  IsRun-push cs from n x i k e f l r = IsRun-long (slice_set cs i (Some x)) from k (grind (arith, run-push cs from n x i k e f l, length-append, length-run cs from n r)) (omega (arith, length-set cs i (Some x)))
 
   -- the last of a run taken
   pub run-pop : (cs : List (Option X)) (from n : ℕ) (x : X) (i k : ℕ) → from + n ≡ i → n + 1 ≡ k → IsRun cs from k → get_or cs i None ≡ Some x → run cs from k ≡ run (slice_set cs i None) from n ++ x ∷ []
-  run-pop cs from n x i k e f r g =
-      let l : i < length cs = omega (arith, r.0) in
-      run-split cs from i n 1 k e f ∙ ap (λ ys. ys ++ run cs i 1) (sym (run-set-above cs from n i None l (omega arith))) ∙ ap (λ ys. run (slice_set cs i None) from n ++ ys) (run-one cs i x l g)
+  run-pop cs from n x i k e f r g = grind (arith, run-split cs from i n 1 k e f, run-set-above, run-one)
 
   pub IsRun-pop : (cs : List (Option X)) (from n i k : ℕ) → from + n ≡ i → n + 1 ≡ k → IsRun cs from k → IsRun (slice_set cs i None) from n
   IsRun-pop cs from n i k e f r = IsRun-set-above cs from n i None (omega (arith, r.0)) (omega arith) (IsRun-part cs from k from n (omega arith) (omega arith) r)
@@ -125,8 +115,7 @@ module _ {X : Type 0} where
 
   -- the first of a run taken
   pub run-shift : (cs : List (Option X)) (from n : ℕ) (x : X) (i k : ℕ) → from + 1 ≡ i → n + 1 ≡ k → IsRun cs from k → get_or cs from None ≡ Some x → run cs from k ≡ x ∷ run (slice_set cs from None) i n
-  run-shift cs from n x i k e f r g =
-      run-split cs from i 1 n k e (omega arith) ∙ ap (λ ys. ys ++ run cs i n) (run-one cs from x (omega (arith, r.0)) g) ∙ ap (λ ys. x ∷ ys) (sym (run-set-below cs i n from None (omega arith)))
+  run-shift cs from n x i k e f r g = grind (arith, run-split cs from i 1 n k e, run-set-below, run-one)
 
   pub IsRun-shift : (cs : List (Option X)) (from n i k : ℕ) → from + 1 ≡ i → n + 1 ≡ k → IsRun cs from k → IsRun (slice_set cs from None) i n
   IsRun-shift cs from n i k e f r = IsRun-set-below cs i n from None (omega arith) (IsRun-part cs from k i n (omega arith) (omega arith) r)
@@ -138,11 +127,10 @@ module _ {X : Type 0} where
   -- other values in the places of a run
   pub run-with : (cs : List (Option X)) (from n : ℕ) (xs : List X) → from + n ≤ length cs → length xs ≡ n → run (with_run cs from n (map Some xs)) from n ≡ xs
   unfolding with_run
-  run-with cs from n xs h e =
-      let long = length-map xs (λ (x : X). Some x) in run-is (with_run cs from n (map Some xs)) from n xs (same_lists _ _ (grind (arith, places, long)) (λ j d t. grind (arith, places, long)))
+  run-with cs from n xs h e = run-is (with_run cs from n (map Some xs)) from n xs (same_lists _ _ (grind (arith, places, length-map)) (λ j d t. grind (arith, places, length-map)))
 
   pub IsRun-with : (cs : List (Option X)) (from n : ℕ) (xs : List X) → from + n ≤ length cs → length xs ≡ n → IsRun (with_run cs from n (map Some xs)) from n
-  IsRun-with cs from n xs h e = IsRun-long (with_run cs from n (map Some xs)) from n (ap length (run-with cs from n xs h e) ∙ e) (omega (arith, h, length-with_run cs from n (map Some xs) h (length-map xs (λ (x : X). Some x) ∙ e)))
+  IsRun-with cs from n xs h e = IsRun-long (with_run cs from n (map Some xs)) from n (grind (arith, run-with)) (grind (arith, length-with_run, length-map))
 
   pub drop-with : (cs : List (Option X)) (from n : ℕ) (ys : List (Option X)) → from + n ≤ length cs → length ys ≡ n → drop (from + n) (with_run cs from n ys) ≡ drop (from + n) cs
   unfolding with_run
@@ -167,12 +155,10 @@ module _ {X : Type 0} where
 
   -- the first and the last elements of a run
   pub run-take : (cs : List (Option X)) (from m n : ℕ) → m ≤ n → IsRun cs from n → take m (run cs from n) ≡ run cs from m
-  run-take cs from m n h r =
-      ap (take m) (run-split cs from (from + m) m (n - m) n refl (omega arith)) ∙ take_at (run cs from m) (run cs (from + m) (n - m)) m (length-run cs from m (IsRun-part cs from n from m (omega arith) (omega arith) r))
+  run-take cs from m n h r = grind (arith, run-split cs from (from + m) m (n - m) n, take_at, length-run, IsRun-part)
 
   pub run-drop : (cs : List (Option X)) (from a m n k : ℕ) → from + m ≡ a → m + k ≡ n → IsRun cs from n → drop m (run cs from n) ≡ run cs a k
-  run-drop cs from a m n k e f r =
-      ap (drop m) (run-split cs from a m k n e f) ∙ drop_at (run cs from m) (run cs a k) m (length-run cs from m (IsRun-part cs from n from m (omega arith) (omega arith) r))
+  run-drop cs from a m n k e f r = grind (arith, run-split cs from a m k n e f, drop_at, length-run, IsRun-part)
 
   -- other places leave a run before them unchanged, and one after them
   pub run-with-below : (cs : List (Option X)) (from n : ℕ) (ys : List (Option X)) (a k : ℕ) → from + n ≤ length cs → a + k ≤ from → run (with_run cs from n ys) a k ≡ run cs a k

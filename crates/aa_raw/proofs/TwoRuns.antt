@@ -1,5 +1,5 @@
 -- The result of growth that keeps two runs.
-use Rattle.aa_raw.proofs.Common.{AreApart, AreJoined, AreParted, Block, IsFull, IsRun, List, None, Option, ReservesRuns, Some, ap, arith, both, drop, grown_with, inl, inr, length, length-replicate, length_refill, map, nat_tests, refl, replicate, rules, run, subst, sym, take, usize_max, with_run, ℕ, ◌++◌, ◌+◌, ◌-◌, ◌<◌, ◌∙◌, ◌≡◌, ◌≤◌}
+use Rattle.aa_raw.proofs.Common.{AreApart, AreJoined, AreParted, Block, IsFull, IsRun, List, None, Option, ReservesRuns, Some, ap, arith, both, drop, grown_with, inl, inr, length, length-map, length-replicate, length_refill, map, nat_tests, refl, replicate, rules, run, subst, sym, take, usize_max, with_run, ℕ, ◌++◌, ◌+◌, ◌-◌, ◌<◌, ◌∙◌, ◌≡◌, ◌≤◌}
 use Rattle.aa_raw.proofs.Calls.{IsRun-transferred_there, IsRun-with-below, run-transferred_there}
 use Rattle.aa_raw.proofs.Places.{length-with_run, lengths}
 use Rattle.aa_raw.proofs.Runs.{IsRun-joined, IsRun-same, cut-long, run-filled, run-split, run-with-above, run-with-below}
@@ -16,7 +16,7 @@ pub ruleset apart = (AreApart-before, AreApart-after)
 module _ {X : Type 0} (cs : List (Option X)) (first second : ℕ × ℕ) (r : IsRun cs first.0 first.1) (s : IsRun cs second.0 second.1) where
   module _ (apart : AreApart first second) where
     pub both-fit : both first second ≤ length cs
-    both-fit = elim apart [ inl h ↦ omega (arith, h, r.0, s.0) | inr h ↦ omega (arith, h, r.0, s.0) ]
+    both-fit = grind (arith, apart, r.0, s.0)
 
     abbrev none : List (Option X)
     none = replicate first.1 None
@@ -26,10 +26,7 @@ module _ {X : Type 0} (cs : List (Option X)) (first second : ℕ × ℕ) (r : Is
     left = with_run cs first.0 first.1 none
 
     run-left : run left second.0 second.1 ≡ run cs second.0 second.1
-    run-left = elim apart [
-      | inl h ↦ run-with-above cs first.0 first.1 none second.0 second.1 r.0 (length-replicate {A = Option X} first.1 None) h
-      | inr h ↦ run-with-below cs first.0 first.1 none second.0 second.1 r.0 h
-    ]
+    run-left = grind (arith, apart, r.0, run-with-above, run-with-below, length-replicate)
 
     pub length-left : length left ≡ length cs
     length-left = length-with_run cs first.0 first.1 none r.0 (length-replicate {A = Option X} first.1 None)
@@ -50,23 +47,17 @@ module _ {X : Type 0} (cs : List (Option X)) (first second : ℕ × ℕ) (r : Is
     abbrev two : List (Option X)
     two = with_run one to second.1 (take second.1 (drop second.0 cs))
 
-    long : length empty ≡ c
-    long = length-replicate {A = Option X} c None
-
-    length-one : length one ≡ c
-    length-one = length-with_run empty 0 first.1 (take first.1 (drop first.0 cs)) (omega (arith, long)) (cut-long cs first.0 first.1 r.0) ∙ long
-
     pub length-two : length two ≡ c
-    length-two = length-with_run one to second.1 (take second.1 (drop second.0 cs)) (omega (arith, length-one)) (cut-long cs second.0 second.1 s.0) ∙ length-one
+    length-two = grind (arith, length-with_run, length-replicate, cut-long, r.0, s.0)
 
     -- both are there
     two-kept : IsRun two 0 first.1 × (run two 0 first.1 ≡ run cs first.0 first.1) × IsRun two to second.1 × (run two to second.1 ≡ run cs second.0 second.1)
     two-kept =
-        let room : to + second.1 ≤ length one = omega (arith, length-one) in let start : 0 + first.1 ≤ length empty = omega (arith, long) in let ys = take second.1 (drop second.0 cs) in (
-          IsRun-with-below one to second.1 ys 0 first.1 room (cut-long cs second.0 second.1 s.0) (omega arith) (IsRun-transferred_there empty cs 0 first.0 first.1 start r),
-          run-with-below one to second.1 ys 0 first.1 room (omega arith) ∙ run-transferred_there empty cs 0 first.0 first.1 start r,
-          IsRun-transferred_there one cs to second.0 second.1 room s,
-          run-transferred_there one cs to second.0 second.1 room s,
+        let ys = take second.1 (drop second.0 cs) in let fits : to + second.1 ≤ length one = grind (arith, length-with_run, length-replicate, cut-long, r.0) in let start : 0 + first.1 ≤ length empty = omega (arith, length-replicate {A = Option X} c None) in (
+          IsRun-with-below one to second.1 ys 0 first.1 fits (cut-long cs second.0 second.1 s.0) (omega arith) (IsRun-transferred_there empty cs 0 first.0 first.1 start r),
+          grind (arith, fits, start, run-with-below, run-transferred_there),
+          IsRun-transferred_there one cs to second.0 second.1 fits s,
+          run-transferred_there one cs to second.0 second.1 fits s,
         )
 
 module _ {X A : Type 0} (size : ℕ) (old : Block X A) (first second : ℕ × ℕ) (k requested to : ℕ) where
@@ -77,8 +68,7 @@ module _ {X A : Type 0} (size : ℕ) (old : Block X A) (first second : ℕ × �
   -- where they don't, it has grown
   pub ReservesRuns-grows : IsFull old first second k → IsRun old.places first.0 first.1 → IsRun old.places second.0 second.1 → first.1 ≤ to → to + second.1 ≤ requested
       → both first second + k ≤ requested → requested ≤ usize_max → 0 < size → ReservesRuns size old first second k requested to (grown_with old first second to requested)
-  ReservesRuns-grows full r s low high enough few has_size =
-      let long = length-two old.places first second r s requested to low high in grind (arith, nat_tests, long)
+  ReservesRuns-grows full r s low high enough few has_size = grind (arith, nat_tests, length-two old.places first second r s requested to low high)
 
 module _ {X A : Type 0} (size : ℕ) (old : Block X A) (first second : ℕ × ℕ) (k requested : ℕ) (new : Block X A) (full : IsFull old first second k) (r : IsRun old.places first.0 first.1) (s : IsRun old.places second.0 second.1) where
   enough : (to : ℕ) → ReservesRuns size old first second k requested to new → both first second ≤ requested
@@ -92,12 +82,12 @@ module _ {X A : Type 0} (size : ℕ) (old : Block X A) (first second : ℕ × �
   -- in line
   pub AreJoined-made : ReservesRuns size old first second k requested first.1 new → AreJoined old new first second
   AreJoined-made made = let m = first.1 in let n = second.1 in let p = kept m made (omega arith) (enough m made) in
-      record { there = IsRun-joined _ 0 m m n (m + n) (omega arith) refl p.0 p.2; same = run-split _ 0 m m n (m + n) (omega arith) refl ∙ (λ i. p.1 i ++ p.3 i) }
+      record { there = IsRun-joined _ 0 m m n (m + n) (omega arith) refl p.0 p.2; same = grind (arith, p.1, p.3, run-split new.places 0 m m n (m + n)) }
 
   -- at both ends
   pub AreParted-made : ReservesRuns size old first second k requested (requested - second.1) new → AreParted old new first second
   AreParted-made made =
       let n = second.1 in let all : both first second ≤ requested = enough (requested - n) made in let p = kept (requested - n) made (omega arith) (omega arith) in let same : requested - n ≡ length new.places - n = omega (arith, p.4) in
-      record { before = p.0; front = p.1; after = subst (λ i. IsRun new.places i n) same p.2; back = ap (λ i. run new.places i n) (sym same) ∙ p.3 }
+      record { before = p.0; front = p.1; after = rw (← same) p.2; back = rw (← same) p.3 }
 
 pub ruleset kept_runs = (lengths, nat_tests, length_refill, both-fit, length-left, IsRun-left, cut-left, ReservesRuns-unchanged, ReservesRuns-grows, AreJoined-made, AreParted-made)

@@ -39,7 +39,7 @@ FewBlocks Sparing blocks n = 4 * 3 ^ blocks ≤ 2 ^ blocks * max 4 (9 * n)
 FewBlocks InPlace blocks n = 2 ^ blocks ≤ max 1 (4 * n)
 
 -- the greatest number of places that growth by this policy holds at once for a list that never had
--- more than `n` elements: three times `n`, or two and a half times
+-- more than `n` elements: `n`, and beside these twice as many, or half more if sparing, but at least 8
 abbrev pub most_held : Growth → (n : ℕ) → ℕ
 most_held Doubling n = n + max 8 (2 * n)
 most_held Sparing n = n + max 8 (n + n / 2)

@@ -1,7 +1,6 @@
 -- The view of the fields of an `IntoIter`, and their invariant.
-use Rattle.std.specs.Prelude.{◌≡◌, ◌-◌, ◌≤◌, true, take, drop, is_none}
-use Rattle.std.specs.List.{list_all}
-use Rattle.aa_raw.specs.Places.{IsRun, run}
+use Rattle.std.specs.Prelude.{◌-◌, ◌≤◌, take, drop}
+use Rattle.aa_raw.specs.Places.{AreEmpty, IsRun, run}
 use Rattle.aa_raw.specs.IntoIter.{Remaining, remaining_in}
 use Rattle.aa_raw.specs.declared.vec.into_iter.IntoIter.TheInside.{Inside}
 
@@ -14,5 +13,5 @@ module _ {X A : Type 0} where
   pub record IsBetween (v : Inside X A) : Type 0 where
     pub between : v.front ≤ v.back
     pub filled : IsRun v.block.places v.front (v.back - v.front)
-    pub before : list_all is_none (take v.front v.block.places) ≡ true
-    pub after : list_all is_none (drop v.back v.block.places) ≡ true
+    pub before : AreEmpty (take v.front v.block.places)
+    pub after : AreEmpty (drop v.back v.block.places)

@@ -1,5 +1,5 @@
 -- The contents of the places of a block.
-use Rattle.std.specs.Prelude.{◌≡◌, ℕ, ◌+◌, ◌*◌, ◌^◌, ◌<◌, ◌≤◌, true, get_or, List, ◌++◌, length, take, drop, replicate, filter_map, Option, None, is_some, if◌then◌else◌, ◌==◌}
+use Rattle.std.specs.Prelude.{◌≡◌, ℕ, ◌+◌, ◌*◌, ◌^◌, ◌<◌, ◌≤◌, true, get_or, List, ◌++◌, length, take, drop, replicate, filter_map, Option, None, is_none, is_some, if◌then◌else◌, ◌==◌}
 use Rattle.std.specs.List.{list_all}
 use Rattle.aa_raw.specs.Growth.{usize_max}
 use denote.RattleType.{RattleType}
@@ -26,6 +26,10 @@ module _ {X : Type 0} where
   -- the `n` places of `cs` from the index `from` on hold values
   abbrev pub IsRun : List (Option X) → ℕ → ℕ → Type 0
   IsRun cs from n = (from + n ≤ length cs) × (list_all is_some (take n (drop from cs)) ≡ true)
+
+  -- no place of `cs` holds a value
+  abbrev pub AreEmpty : List (Option X) → Type 0
+  AreEmpty cs = list_all is_none cs ≡ true
 
   -- the values in the places `cs`
   abbrev pub somes : List (Option X) → List X

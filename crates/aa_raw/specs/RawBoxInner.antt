@@ -1,7 +1,7 @@
 -- The view of the fields of a `RawBox`, and their invariant.
-use Rattle.std.specs.Prelude.{◌≡◌, ◌≢◌, true, get_or, length, drop, None, is_none}
-use Rattle.std.specs.List.{list_all}
+use Rattle.std.specs.Prelude.{◌≡◌, ◌≢◌, get_or, length, drop, None}
 use Rattle.aa_raw.specs.Growth.{usize_max}
+use Rattle.aa_raw.specs.Places.{AreEmpty}
 use Rattle.aa_raw.specs.Single.{Single}
 use Rattle.aa_raw.specs.declared.raw_box.RawBox.TheInside.{Inside}
 
@@ -17,4 +17,4 @@ module _ {X A : Type 0} where
     pub claim : (v.claim.ptr ≡ v.row.ptr) × (v.claim.len ≡ length v.row.places)
         × (v.claim.alloc ≡ v.alloc)
     pub long : length v.row.places ≢ 1 → length v.row.places ≡ usize_max
-    pub others : list_all is_none (drop 1 v.row.places) ≡ true
+    pub others : AreEmpty (drop 1 v.row.places)

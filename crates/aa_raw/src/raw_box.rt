@@ -16,8 +16,8 @@ use std::marker::Model;
 /// The place is empty or filled. The caller and the contracts know which; the box does not know it
 /// at run time.
 ///
-/// When dropped, it deallocates its memory, but does not drop a value in its place. It never
-/// allocates for a zero-sized value. Not in allocator-api2.
+/// When dropped, it deallocates its memory. The place must be empty then: its value was moved out
+/// before. It never allocates for a zero-sized value. Not in allocator-api2.
 pub struct RawBox<T, A: Allocator = Global> {
     row: Row<T>,
     claim: Claim<T, A>,
@@ -134,8 +134,12 @@ fn capacity_for_one<T>() -> usize
 }
 
 impl<T, A: Allocator> Drop for RawBox<T, A> {
-    /// Deallocates the memory. Does not drop a value in its place.
-    fn drop(self) {
+    /// Deallocates the memory.
+    ///
+    /// The place may hold no value.
+    fn drop(self)
+        requires { self.place ≡ None }
+    {
         let RawBox { row, claim, alloc } = self;
         claim.prove_capacity_bounds();
         free_block(&alloc, capacity_for_one::<T>(), row, claim);

@@ -6,7 +6,7 @@ ghost use Rattle.std.specs.Prelude.{◌≡◌, ◌≢◌, ◌+◌, ◌-◌, ◌*
 ghost use Rattle.std.specs.Mem.{type_size};
 ghost use Rattle.std.specs.Borrow.{sem};
 ghost use Rattle.std.specs.Fn.{CalledAtPairMut};
-ghost use Rattle.aa_raw.specs.Places.{IsCapacity, IsFilled, IsRun, moved, with_run};
+ghost use Rattle.aa_raw.specs.Places.{AreEmpty, IsCapacity, IsFilled, IsRun, moved, with_run};
 ghost use Rattle.aa_raw.specs.Block.{fresh, with_places, without, with_moved, with_written, grown_to, shrunk_to, cut_to, growth_capacity, of_new, reserve_capacity, with_shrink, Reserves, ReserveResult};
 ghost use Rattle.aa_raw.specs.Closures.{CallableAtPairMut, CalledAtPlaces};
 ghost use Rattle.aa_raw.specs.Growth.{amortized, min_capacity, usize_max};
@@ -73,9 +73,10 @@ enum ReserveKind {
 
 /// A block of places over the allocator `A`.
 ///
-/// When dropped, it deallocates its memory, but does not drop the values in its places. A block of
-/// zero-sized elements has `usize::MAX` places and never allocates. In allocator-api2 this type is
-/// private.
+/// When dropped, it deallocates its memory. No place may hold a value then: each was moved out or
+/// dropped before, or forgotten by `forget_run` or `forget_from`. `mem::forget` takes no block. A
+/// block of zero-sized elements has `usize::MAX` places and never allocates. In allocator-api2 this
+/// type is private, and its drop forgets the values.
 pub struct RawVec<T, A: Allocator = Global> {
     pub(crate) row: Row<T>,
     word: usize,
@@ -140,7 +141,6 @@ impl<T, A: Allocator> RawVec<T, A> {
     /// Returns an empty block with the growth policy `growth`.
     ///
     /// Does not allocate. Not in allocator-api2.
-    #[tactic(auto, using(crate::proofs::Reserving::made_empty))]
     pub fn with_growth_in(growth: Growth, alloc: A) -> Self
         ensures { result ≡ fresh (type_size T.row) 0 growth alloc }
     {
@@ -258,6 +258,15 @@ impl<T, A: Allocator> RawVec<T, A> {
         ensures { self.new ≡ without self.old from (length self.old.places - from) }
     {
         let count = self.capacity() - from;
+        self.forget_run(from, count);
+    }
+
+    /// Forgets the values in the `count` places from `from` on, if any. Does nothing at run time.
+    #[inline(always)]
+    pub fn forget_run(&mut self, from: usize, count: usize)
+        requires { from + count ≤ length self.old.places }
+        ensures { self.new ≡ without self.old from count }
+    {
         self.row.forget(from, count);
     }
 
@@ -752,6 +761,7 @@ fn new_row<T, A: Allocator>(alloc: &A, capacity: usize) -> Result<(Row<T>, Claim
 }
 
 // Deallocates the memory of a row, if it has any, and forgets the values in its places.
+#[tactic(auto, using(crate::proofs::Reserving::made_empty))]
 pub(crate) fn free_block<T, A: Allocator>(
     alloc: &A,
     capacity: usize,
@@ -771,7 +781,10 @@ pub(crate) fn free_block<T, A: Allocator>(
 }
 
 impl<T, A: Allocator> Drop for RawVec<T, A> {
-    fn drop(self) {
+    /// Deallocates the memory. No place may hold a value.
+    fn drop(self)
+        requires { AreEmpty self.places }
+    {
         let RawVec {
             row,
             word,

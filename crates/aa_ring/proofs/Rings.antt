@@ -1,13 +1,14 @@
 -- What the calls of the block leave of a ring: its parts, and its items.
-use Rattle.std.proofs.Common.{◌≡◌, ℕ, ◌+◌, ◌-◌, ◌<◌, ◌≤◌, List, [], ◌∷◌, ◌++◌, length, take, drop, get_or, Option, Some, None, refl, sym, ap, ◌∙◌, arith, append_assoc, length-append, length-drop, length-set, map}
+use Rattle.std.proofs.Common.{◌≡◌, ℕ, ◌+◌, ◌-◌, ◌<◌, ◌≤◌, List, [], ◌∷◌, ◌++◌, length, take, drop, get_or, Option, Some, None, refl, sym, ap, ◌∙◌, arith, append_assoc, length-append, length-drop, inl, inr, length-set, map}
 use Rattle.std.specs.Prelude.{slice_set, reverse, replicate, is_some}
 use Rattle.std.specs.List.{list_all, refill}
+use Rattle.std.proofs.lemmas.Bool.{cases_lt}
 use Rattle.std.proofs.lemmas.Bool.Decides.{nat_tests}
 use Rattle.std.proofs.lemmas.Grind.{flat_map-append, fold-append}
 use Rattle.std.proofs.lemmas.List.Folds.{list_any-append}
-use Rattle.std.proofs.lemmas.List.{append-nil, drop_at, length-map, length-reverse, length-take-le, reverse-append, reverse-reverse, take-append-drop, set-append_left, set-append_right, take-append-le, take-take, take_at}
-use Rattle.allocator_api2.specs.Places.{IsFilled, IsRun, run, with_run}
-use Rattle.allocator_api2.proofs.Blocks.{apart, two_runs, shown, length-run, run-push, IsRun-push, run-pop, IsRun-pop, run-shift, IsRun-shift, run-unshift, IsRun-unshift, run-none, IsRun-joined, IsRun-part, run-split, IsRun-nil, run-set-above, run-set-below, run-set-same, IsRun-set-above, IsRun-set-below, first-filled, last-filled, rotated}
+use Rattle.std.proofs.lemmas.List.{append-nil, drop_at, length-map, length-replicate, length-reverse, length-take-le, reverse-append, reverse-reverse, take-append-drop, set-append_left, set-append_right, take-append-le, take-take, take_at}
+use Rattle.allocator_api2.specs.Places.{AreEmpty, IsFilled, IsRun, run, with_run}
+use Rattle.allocator_api2.proofs.Blocks.{length-with_run, none-each, none-still, none-within, apart, two_runs, shown, length-run, run-push, IsRun-push, run-pop, IsRun-pop, run-shift, IsRun-shift, run-unshift, IsRun-unshift, run-none, IsRun-joined, IsRun-part, run-split, IsRun-nil, run-set-above, run-set-below, run-set-same, IsRun-set-above, IsRun-set-below, first-filled, last-filled, rotated}
 use Rattle.aa_ring.specs.RingInner.{HasParts}
 
 module _ {X : Type 0} where
@@ -177,6 +178,32 @@ others-left {X} cs f n w h =
       omega (arith, length-append front (removed ++ rest), length-append removed rest, long),
       ap (list_all is_some) (take-append-le w front (removed ++ rest) (omega arith) ∙ take-take w f cs low) ∙ h.others.1,
     )
+
+-- no value is left after both parts were dropped and the places between and after them forgotten
+abbrev pub emptied : {X : Type 0} (cs : List (Option X)) (from n : ℕ) → List (Option X)
+emptied cs from n = with_run cs from n (replicate n None)
+
+pub none-left : {X : Type 0} (cs : List (Option X)) (f n w : ℕ) → HasParts cs f n w → (ds : List (Option X)) → ds ≡ emptied (emptied (emptied cs f n) 0 w) w (f - w) → AreEmpty (emptied ds (f + n) (length ds - (f + n)))
+none-left {X} cs f n w h ds is =
+    let firsts : List (Option X) = emptied cs f n in let bs : List (Option X) = emptied firsts 0 w in let ends = h.first.0 in let low = h.apart in
+    let long : (es : List (Option X)) (from k : ℕ) → from + k ≤ length es → length (emptied es from k) ≡ length es = λ es from k fits. length-with_run es from k (replicate k None) fits (length-replicate k None) in
+    let a = long cs f n ends in let b = long firsts 0 w (omega (arith, a)) in
+    let d : length ds ≡ length bs = ap length is ∙ long bs w (f - w) (omega (arith, a, b)) in
+    let there : (i : ℕ) → get_or (emptied bs w (f - w)) i None ≡ None → get_or ds i None ≡ None = λ i e. ap (λ es. get_or es i None) is ∙ e in
+    let still : (i : ℕ) → get_or bs i None ≡ None → get_or ds i None ≡ None = λ i e. there i (none-still bs w (f - w) i (omega (arith, a, b)) e) in
+    let last : length (emptied ds (f + n) (length ds - (f + n))) ≡ length ds = long ds (f + n) (length ds - (f + n)) (omega (arith, a, b, d)) in
+    none-each _ (λ i t.
+    let kept : get_or ds i None ≡ None → get_or (emptied ds (f + n) (length ds - (f + n))) i None ≡ None = none-still ds (f + n) (length ds - (f + n)) i (omega (arith, a, b, d)) in
+    elim (cases_lt i w) [
+      | inl x ↦ kept (still i (none-within firsts 0 w i (omega (arith, a)) (omega arith) (omega (arith, x))))
+      | inr x ↦ elim (cases_lt i f) [
+        | inl y ↦ kept (there i (none-within bs w (f - w) i (omega (arith, a, b)) x (omega (arith, x, y))))
+        | inr y ↦ elim (cases_lt i (f + n)) [
+          | inl z ↦ kept (still i (none-still firsts 0 w i (omega (arith, a)) (none-within cs f n i ends y z)))
+          | inr z ↦ none-within ds (f + n) (length ds - (f + n)) i (omega (arith, a, b, d)) z (omega (arith, t, last, z))
+        ]
+      ]
+    ])
 
 -- no items at all
 pub no_parts : {X : Type 0} (cs : List (Option X)) (f n w : ℕ) → n ≡ 0 → w ≡ 0 → parts cs f n w ≡ []

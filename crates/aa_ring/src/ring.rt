@@ -371,7 +371,10 @@ impl<T: Drop, A: Allocator> Drop for Ring<T, A> {
             wrapped,
             added: _,
         } = self;
+        block.prove_capacity_bounds();
         block.drop_run(front, count);
         block.drop_run(0, wrapped);
+        block.forget_run(wrapped, front - wrapped);
+        block.forget_from(front + count);
     }
 }

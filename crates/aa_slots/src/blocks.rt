@@ -2,6 +2,7 @@
 ghost use Rattle.std.specs.Prelude.{◌≡◌, ◌<◌, ◌≤◌, [], length, IfErr, IfOk, OnErr, OnOk, IsOk, IsTrue};
 ghost use Rattle.std.specs.Mem.{type_size};
 ghost use Rattle.allocator_api2.specs.Errors.{ClonesFail, IsErrorFor};
+ghost use Rattle.allocator_api2.specs.Places.{AreEmpty};
 ghost use Rattle.aa_slots.specs.Inside.{capacity_of, seen, states_of, AreClones, AreHeld, AreHeldBetween};
 ghost use Rattle.allocator_api2.specs.declared.collections.TryReserveErrorKind.TheVariants.{AllocError};
 
@@ -58,11 +59,13 @@ fn move_all<T, A: Allocator>(
 // Returns a block with capacity for `capacity` elements, allocated by a clone of `alloc`.
 //
 // An `AllocError` has the number `capacity`.
+#[tactic(auto, using(allocator_api2::proofs::Blocks::emptied))]
 fn block_for<E, A: Allocator + Clone>(
     alloc: &A,
     capacity: usize,
 ) -> Result<RawVec<E, A>, TryReserveError>
     ensures room { IfOk result (λ b. capacity ≤ length b.places) }
+    ensures empty { IfOk result (λ b. AreEmpty b.places) }
     ensures fits { A.is_infallible alloc.now → capacity ≡ 0 → IsOk result }
     ensures error { IfErr result
         (ClonesFail (A.is_infallible alloc.now) capacity (type_size E.row)) }
@@ -77,6 +80,7 @@ fn block_for<E, A: Allocator + Clone>(
 
 // Reserves places for exactly `capacity` values, unless there are as many. Moves the values if it
 // allocates.
+#[tactic(auto, using(allocator_api2::proofs::Blocks::emptied))]
 fn reserve_places<T, A: Allocator + Clone>(
     slots: &[Slot],
     values: &mut RawVec<((), T), A>,
@@ -95,6 +99,7 @@ fn reserve_places<T, A: Allocator + Clone>(
     }
     let mut fresh = block_for(values.allocator(), capacity)?;
     move_all(slots, values, &mut fresh);
+    values.forget_from(0);
     *values = fresh;
     Ok(())
 }
@@ -165,6 +170,7 @@ pub fn reserve<T, A: Allocator + Clone>(
 ///
 /// # Errors
 /// `AllocError` with the number of slots. Both blocks are unchanged.
+#[tactic(auto, using(allocator_api2::proofs::Blocks::emptied))]
 pub fn shrink<T, A: Allocator + Clone>(
     slots: &mut Vec<Slot, A>,
     values: &mut RawVec<((), T), A>,
@@ -194,6 +200,7 @@ pub fn shrink<T, A: Allocator + Clone>(
     let mut fresh = block_for(values.allocator(), len)?;
     slots.shrink_to_fit()?;
     move_all(slots.as_slice(), values, &mut fresh);
+    values.forget_from(0);
     *values = fresh;
     Ok(())
 }
@@ -243,6 +250,7 @@ fn put_clones<T: Clone + Drop, A: Allocator>(
 }
 
 /// Returns a block with a clone of the value of each slot, over a clone of the allocator.
+#[tactic(auto, using(allocator_api2::proofs::Blocks::emptied))]
 pub fn clone_values<T: Clone + Drop, A: Allocator + Clone>(
     slots: &[Slot],
     values: &RawVec<((), T), A>,
@@ -258,6 +266,7 @@ pub fn clone_values<T: Clone + Drop, A: Allocator + Clone>(
     if put_clones(slots, values, &mut copy) {
         Ok(copy)
     } else {
+        copy.forget_from(0);
         Err(alloc_error(slots.len()))
     }
 }

@@ -65,6 +65,7 @@ impl<T, A: Allocator, K> IntoIter<T, A, K> {
 
 impl<T: Drop, A: Allocator, K> Drop for IntoIter<T, A, K> {
     /// Drops the remaining values and frees the blocks.
+    #[tactic(auto, using(allocator_api2::proofs::Blocks::emptied))]
     fn drop(self) {
         let IntoIter {
             mut values,
@@ -75,6 +76,7 @@ impl<T: Drop, A: Allocator, K> Drop for IntoIter<T, A, K> {
             kind: _,
         } = self;
         drop_between(slots_in(&slots), &mut values, at, end);
+        values.forget_from(0);
         drop(slots);
     }
 }

@@ -63,6 +63,7 @@ impl<T, A: Allocator, K> Model for SlotMap<T, A, K> {
 
 impl<T: Drop, A: Allocator, K> Drop for SlotMap<T, A, K> {
     /// Drops all values and frees the blocks.
+    #[tactic(auto, using(allocator_api2::proofs::Blocks::emptied))]
     fn drop(self) {
         let SlotMap {
             mut values,
@@ -73,6 +74,7 @@ impl<T: Drop, A: Allocator, K> Drop for SlotMap<T, A, K> {
         } = self;
         let all = slots_in(&slots);
         drop_between(all, &mut values, 0, all.len());
+        values.forget_from(0);
         drop(slots);
     }
 }

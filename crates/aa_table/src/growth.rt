@@ -213,6 +213,7 @@ fn move_indexed<K: Eq + Hash, V, S: BuildHasher, A: Allocator>(
 
     // All entries are in the other places, and their index is complete.
     ensures moved { IsPermutation (somes from.old.places) (somes to.new.places) }
+    ensures emptied { (s : ℕ) → get_or from.new.places s None ≡ None }
     ensures index { IsIndex index.new.tags.items index.new.overflows.items
         (hashes_of (hashes S.BuildHasher S.Hasher.Hasher K.hash_input builder.now) to.new.places) }
     ensures slots { length index.new.tags.items ≡ length index.old.tags.items }

@@ -282,6 +282,7 @@ impl<K, V, A: Allocator> IntoIter<K, V, A> {
 
 impl<K: Drop, V: Drop, A: Allocator> Drop for IntoIter<K, V, A> {
     /// Drops the remaining keys and values, and frees the blocks.
+    #[tactic(auto, using(allocator_api2::proofs::Blocks::emptied))]
     fn drop(self) {
         let IntoIter {
             index,
@@ -291,6 +292,7 @@ impl<K: Drop, V: Drop, A: Allocator> Drop for IntoIter<K, V, A> {
             left: _,
         } = self;
         drop_between(tags_in(&index), &mut places, walk.from, end);
+        places.forget_from(0);
         drop(index);
     }
 }

@@ -43,8 +43,7 @@ module _ {T A : Type 0} where
 
   -- one call after another
   pub Becomes-at : (old : Vector T A) (xs : List T) (n k : ℕ) (mid : Vector T A) → Becomes old xs n k mid → (ys : List T) (m l : ℕ) (new : Vector T A) → Becomes mid ys m l new → (zs : List T) (a b : ℕ) → ys ≡ zs → n + m ≡ a → k + l ≡ b → Becomes old zs a b new
-  Becomes-at old xs n k mid e ys m l new f zs a b same all calls =
-      grind (arith, Becomes-holds, SameBlock-trans, SameBlock-becomes)
+  Becomes-at old xs n k mid e ys m l new f zs a b same all calls = grind (arith, Becomes-holds, SameBlock-trans, SameBlock-becomes)
 
   pub Becomes-then : (old : Vector T A) (xs : List T) (n k : ℕ) (mid : Vector T A) → Becomes old xs n k mid → (ys : List T) (m l : ℕ) (new : Vector T A) → Becomes mid ys m l new → (a b : ℕ) → n + m ≡ a → k + l ≡ b → Becomes old ys a b new
   Becomes-then old xs n k mid e ys m l new f a b = Becomes-at old xs n k mid e ys m l new f ys a b refl

@@ -1,5 +1,5 @@
 -- A vector without spare capacity.
-use Rattle.aa_vec.proofs.Common.{◌≡◌, ℕ, ◌*◌, ◌^◌, ◌<◌, ◌≤◌, length, arith, nat_tests, usize_max, Block, IsRun, length-run, view_of, same_or_not}
+use Rattle.aa_vec.proofs.Common.{◌≡◌, ℕ, ◌*◌, ◌^◌, ◌<◌, ◌≤◌, length, arith, nat_tests, usize_max, Block, IsRun, length-run, same_or_not, vector_in}
 use Rattle.std.proofs.Math.Nat.{le-mul_of_pos_right}
 use Rattle.aa_boxed.specs.Room.{IsExactFor}
 use Rattle.aa_boxed.specs.Slice.{Slice, slice_of}
@@ -8,9 +8,8 @@ use Rattle.aa_vec.specs.Boxes.{IsUnboxed}
 module _ {T A : Type 0} (size : ℕ) where
   -- the block of a boxed slice as that of a vector
   pub IsUnboxed-block : (b : Block T A) (n : ℕ) (s : Slice T A) → IsRun b.places 0 n → IsExactFor n b.places → slice_of b n ≡ s
-      → (length b.places * size < 2 ^ 63) → (size ≡ 0 → usize_max ≤ length b.places) → length b.places ≤ usize_max → IsUnboxed size s (view_of (record { block = b; len = n }))
-  IsUnboxed-block b n s filled room same small many few =
-      grind (arith, nat_tests, length-run, same_or_not, nat_tests, le-mul_of_pos_right)
+      → (length b.places * size < 2 ^ 63) → (size ≡ 0 → usize_max ≤ length b.places) → length b.places ≤ usize_max → IsUnboxed size s (vector_in b n)
+  IsUnboxed-block b n s filled room same small many few = grind (arith, nat_tests, length-run, same_or_not, le-mul_of_pos_right)
 
 -- a block that a vector takes over
 pub ruleset unboxed = (IsUnboxed-block)

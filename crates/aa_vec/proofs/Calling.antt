@@ -36,13 +36,11 @@ module _ {F T : Type 0} (low : ℕ) (Until : F → List T → ℕ → F → List
         let all : ws ≡ front ++ rest = left ∙ sym (append_assoc (take i ys) (y ∷ []) rest) in
         let count : length front ≡ i + 1 = omega (arith, length-append (take i ys) (y ∷ []), length-take-le i ys (omega (arith, gone.within))) in
         let above : drop (i + 1) ws ≡ rest = ap (drop (i + 1)) all ∙ drop_at front rest (i + 1) count in
+        let below : take (i + 1) ws ≡ front = ap (take (i + 1)) all ∙ take_at front rest (i + 1) count in
         record {
           within = omega (arith, ap length all, length-append front rest, count, some);
-          may = subst (May g) (sym above) may;
-          comes = λ k t zs u.
-              let more : Until f xs (i + suc k) t (take i ys ++ y ∷ zs) = gone.comes (suc k) t (y ∷ zs) (until k t zs (subst (λ l. Until g l k t zs) above u)) in
-              let e : take i ys ++ y ∷ zs ≡ take (i + 1) ws ++ zs = sym (append_assoc (take i ys) (y ∷ []) zs) ∙ ap (λ l. l ++ zs) (sym (ap (take (i + 1)) all ∙ take_at front rest (i + 1) count)) in
-              subst (λ n. Until f xs n t (take (i + 1) ws ++ zs)) {x = i + suc k} {y = i + 1 + k} (omega arith) (subst (Until f xs (i + suc k) t) e more);
+          may = rw above may;
+          comes = λ k t zs u. rw (below, append_assoc (take i ys) (y ∷ []) zs) (subst (λ n. Until f xs n t (take i ys ++ y ∷ zs)) {x = i + suc k} {y = i + 1 + k} (omega arith) (gone.comes (suc k) t (y ∷ zs) (until k t zs (rw above at u))));
         }
 
     -- the next is removed, or there is none
@@ -58,11 +56,8 @@ module _ {F T : Type 0} (Each : F → T → Bool → F → T → Type 0) (Takes 
 
   module _ {f : F} {xs : List T} {i : ℕ} {h : F} {ys : List T} (asked : HasCalled f xs i h ys) (d : T) (within : i < length ys) where
     -- the closure may be called for the next
-    next_may : MayCallInOrder Calls Takes h (get_or ys i d ∷ drop (i + 1) ys)
-    next_may = subst (MayCallInOrder Calls Takes h) (from_here ys i d within) asked.may
-
     pub next_takes : Takes h (get_or ys i d)
-    next_takes = next_may.0
+    next_takes = (rw (from_here ys i d within) at asked.may).0
 
     module _ {answer : Bool} {g : F} {y : T} (a : Each h (get_or ys i d) answer g y) where
       called : (goes : Bool) → not (beq answer stays) ≡ goes → Calls h (get_or ys i d) (not goes) g y
@@ -75,7 +70,7 @@ module _ {F T : Type 0} (Each : F → T → Bool → F → T → Type 0) (Takes 
       pub HasCalled-more : not (beq answer stays) ≡ false → HasCalled f xs (i + 1) g (slice_set ys i y)
       HasCalled-more e =
           let s = called false e in
-          Reached-more 0 (CallsUntil Calls) (MayCallInOrder Calls Takes) asked g _ y (drop (i + 1) ys) (whole_set ys i d within y) (omega arith) (next_may.1 true g y s) (λ k t zs u. until (suc k) t (y ∷ zs) (g, y, zs, s, u, refl))
+          Reached-more 0 (CallsUntil Calls) (MayCallInOrder Calls Takes) asked g _ y (drop (i + 1) ys) (whole_set ys i d within y) (omega arith) ((rw (from_here ys i d within) at asked.may).1 true g y s) (λ k t zs u. until (suc k) t (y ∷ zs) (g, y, zs, s, u, refl))
 
       -- it is removed
       pub CallsUntil-here : not (beq answer stays) ≡ true → CallsUntil Calls f xs i g (slice_set ys i y)

@@ -1,5 +1,5 @@
 -- Elements after a gap, for each of which a closure is called with the last one kept.
-use Rattle.aa_vec.proofs.Common.{◌≡◌, ℕ, suc, ◌+◌, ◌<◌, ◌≤◌, Bool, true, false, List, [], ◌∷◌, ◌++◌, length, map, drop, Some, refl, sym, ap, ◌∙◌, subst, arith, length-append, drop_at, drop_all, length-map, take-append-drop, HasTail, LeavesInTail, tail_items, with_spare, MayChainFrom, MayDeduplicate, ChainsUntil, ChainsAlong, CallsOnLast, ChainsOnTail, Vector, len, ChainsInTail}
+use Rattle.aa_vec.proofs.Common.{◌≡◌, ℕ, ◌+◌, ◌<◌, ◌≤◌, Bool, true, false, List, [], ◌∷◌, ◌++◌, length, map, drop, Some, refl, sym, ap, ◌∙◌, subst, arith, length-append, drop_at, drop_all, length-map, take-append-drop, HasTail, LeavesInTail, tail_items, MayChainFrom, MayDeduplicate, ChainsUntil, CallsOnLast, ChainsOnTail, Vector, len, ChainsInTail}
 use Rattle.aa_vec.proofs.Gaps.{borrowed-is, refilled, LeavesInTail-view, seen, there, within, IsFront-restored}
 use Rattle.aa_vec.proofs.Tails.{count, first_are, parts, replaced_are}
 
@@ -44,16 +44,7 @@ module _ {F T A : Type 0} (Calls : F → T → T → Bool → F → T → T → 
       -- what follows leaves the others so
       module _ (k : ℕ) (h : F) (u : Vector T A) (left : List T) (leaves : LeavesInTail w gap n left u) where
         spare : ChainsUntil Calls f asked.last (asked.next ∷ others) k h (asked.last_left ∷ left) → ChainsOnTail Calls f v gap n k h u
-        spare until = record {
-          front = asked.front;
-          last = asked.last;
-          last_left = asked.last_left;
-          left = left;
-          had = asked.had.0;
-          until = subst (λ xs. ChainsUntil Calls f asked.last xs k h (asked.last_left ∷ left)) (sym all) until;
-          becomes = leaves.same ∙ ap (λ s. with_spare s u.spare) asked.becomes;
-          spare = leaves.spare ∙ ap (λ ds. map Some left ++ ds) still_behind;
-        }
+        spare until = grind (arith, still_behind, all, asked.front, asked.last, asked.last_left, left, until)
 
       -- it is removed
       pub ChainsOnTail-repeat : answer ≡ true → ChainsOnTail Calls f v gap n 0 g w
@@ -65,9 +56,7 @@ module _ {F T A : Type 0} (Calls : F → T → T → Bool → F → T → T → 
         may_follow Takes may = rw now_are ((rw all at may).2 g asked.next_left asked.last_left (called false e))
 
         pub ChainsOnTail-more : (k : ℕ) (h : F) (u : Vector T A) → ChainsInTail Calls g w gap n k h u → ChainsOnTail Calls f v gap n (1 + k) h u
-        ChainsOnTail-more k h u on =
-            let follow : ChainsUntil Calls g asked.next_left others k h on.left = subst (λ xs. ChainsAlong Calls g xs k h on.left) now_are on.until in
-            subst (λ i. ChainsOnTail Calls f v gap n i h u) {x = suc k} {y = 1 + k} (omega arith) (spare (suc k) h u on.left on.leaves (g, asked.next_left, asked.last_left, on.left, called false e, follow, refl))
+        ChainsOnTail-more k h u on = grind (arith, now_are, spare, called)
 
         -- and it was the only one
         pub ChainsOnTail-one : n ≤ 1 → ChainsOnTail Calls f v gap n 1 g w

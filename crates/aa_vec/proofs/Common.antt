@@ -5,22 +5,24 @@ pub use Rattle.aa_raw.proofs.Runs.{IsRun-long, IsRun-part, IsRun-same, IsRun-set
 pub use Rattle.aa_raw.specs.Block.{Block, Reserves, with_places, with_written}
 pub use Rattle.aa_raw.specs.Closures.{CallableAtPairMut}
 pub use Rattle.aa_raw.specs.Growth.{amortized, min_capacity, usize_max}
-pub use Rattle.aa_raw.specs.Places.{IsRun, IsFilled}
+pub use Rattle.aa_raw.proofs.Beyond.{none-forgotten_from}
+pub use Rattle.aa_raw.specs.Places.{AreEmpty, IsRun, IsFilled}
 unfoldable pub use Rattle.aa_raw.specs.Places.{moved, run, with_run}
 pub use Rattle.aa_raw.specs.declared.collections.TryReserveError.{TryReserveError}
 pub use Rattle.aa_raw.specs.declared.raw_vec.Growth.{Growth}
 pub use Rattle.aa_raw.specs.declared.raw_vec.Growth.TheVariants.{Doubling, InPlace, Sparing}
 pub use Rattle.aa_vec.specs.Arrays.{flattened}
-pub use Rattle.aa_vec.specs.Tail.{ClosesGap, ClosesTwoGaps, DropsTail, LeavesInTail, ShiftsDown, SetsTail, HasTail, tail_items, with_spare}
+unfoldable pub use Rattle.aa_vec.specs.Tail.{count_from}
+pub use Rattle.aa_vec.specs.Tail.{ClosesGap, ClosesTwoGaps, DropsAndCloses, DropsTail, LeavesInTail, ShiftsDown, SetsTail, HasTail, tail_items, with_spare}
 pub use Rattle.aa_vec.specs.Choosing.{Call, CalledInOrder, ChainsFrom, Deduplicated, Deduplicates, EndsTrue, Equals, IsCallableAlong, IsCallableInOrder, IsPureTest, MayCallInOrder, MayChainFrom, MayDeduplicate, Reads, Retains, CallableAtKeys, CallableAtMut, results_of, kept, kept_after_removed, passed_over}
 pub use Rattle.aa_vec.specs.Copies.{AppendsClones, AppendsResults, AssignsPart, ClonesAreEqual, AppendsCopies, IsMade, IsMadeOfOne, MayCallTimes, AppendFails, RolledBack, WritesAtMost}
 pub use Rattle.aa_vec.specs.Extend.{GrowsInSteps, YieldsCopies, CollectResult, ExtendResult, HasCollected, HasExtended, Extends, RemainingItems, EndsAt, Takes, LowerAtMost, LowerExactly, YieldsWithLower, requested_with, takes_item, grows, lower_bound_of, unchanged}
 pub use Rattle.aa_vec.specs.Extract.{ClosesExtract, Extracted, Extracts, ExtractsAlong, ExtractsRange, extract_count, extract_kept, extract_remaining, extract_tail, extract_vec}
 pub use Rattle.aa_vec.specs.Filling.{FillsAndCloses, FillsGap, Collects, LacksRest, OpensGap, Placed, Puts, PutsAll, PutsFront, PutsRest, WidensGap, YieldsForGap}
-pub use Rattle.aa_vec.specs.VecInner.{IsFront, view_of}
+pub use Rattle.aa_vec.specs.VecInner.{IsFront, IsWhole, view_of}
 pub use Rattle.aa_vec.specs.SpliceItems.{Gapped, LacksOthers, PutsWithin, Replaced, SplicesAll, SplicesFront, SpliceFails, gapped, tail_moves}
 pub use Rattle.aa_vec.specs.Until.{CallsOnTail, CallsOnLast, CallsOnNeighbours, CallsUntil, ChainsAlong, ChainsOnTail, ChainsInTail, ChainsUntil, CallsAndShifts, Picks, KeepsWhen, TakesNext}
-pub use Rattle.aa_vec.specs.Vector.{Becomes, GrowsTo, HasRoom, Holds, IsNew, LacksRoom, SameBlock, Vector, Writes, len, moved_over, run_count, new_capacity, with_items, with_room}
+pub use Rattle.aa_vec.specs.Vector.{Becomes, GrowsTo, HasRoom, Holds, IsNew, LacksRoom, SameBlock, Vector, Writes, len, moved_over, run_count, new_capacity, vector_in, with_items, with_room}
 pub use Rattle.aa_vec.specs.declared.vec.Vec.TheInside.{Inside}
 pub use Rattle.aa_vec.specs.declared.vec.drain.Drain.{Drain}
 pub use Rattle.aa_vec.specs.declared.vec.extract_if.ExtractBy.{ExtractBy}

@@ -1,6 +1,5 @@
 -- Extensions by an iterator whose lower bound is a function of how many items remain.
-use Rattle.aa_vec.proofs.Common.{◌≡◌, ℕ, ◌+◌, ◌-◌, ◌<◌, ◌≤◌, List, [], ◌∷◌, ◌++◌, length, None, append_assoc, sym, ap, ◌∙◌, subst, arith, inl, inr, length-append, min, cases_lt, append-nil, Result, Ok, Err, OnOk, TryReserveError, usize_max, Vector, len, SameBlock, LacksRoom, YieldsWithLower, Takes, Extends, RemainingItems, takes_item, lower_bound_of, LowerExactly}
-use Rattle.aa_vec.proofs.Outcomes.{on_both, if_err}
+use Rattle.aa_vec.proofs.Common.{◌≡◌, ℕ, ◌+◌, ◌-◌, ◌<◌, ◌≤◌, List, [], ◌∷◌, ◌++◌, length, None, append_assoc, sym, ap, ◌∙◌, arith, inl, inr, length-append, cases_lt, append-nil, Result, Ok, Err, OnOk, TryReserveError, usize_max, Vector, len, SameBlock, YieldsWithLower, Takes, Extends, RemainingItems, takes_item, lower_bound_of, LowerExactly}
 use Rattle.aa_vec.proofs.GrowthLemmas.{MakesRoom, SameBlock-refl, Extends-fits, GrowsInSteps-counted, GrowsInSteps-exact}
 
 -- another function has the same bounds for `taken`, after which `more` remains; and the vector was another in the same block
@@ -9,21 +8,9 @@ module _ {T A : Type 0} (size : ℕ) (lower by : ℕ → ℕ) {u v : Vector T A}
   Extends-yields all e r none new x =
       let others : List T = x.others ++ more in
       let taken_is : length taken ≡ length x.front + length x.others = ap length x.begins ∙ length-append x.front x.others in
-      record {
-        front = x.front;
-        others = others;
-        begins = e ∙ ap (λ ys. ys ++ more) x.begins ∙ append_assoc x.front x.others more;
-        within = omega (arith, x.within, b.capacity);
-        in_steps = GrowsInSteps-counted size lower by (length head + length taken) (length more) (length head + length all) b (omega (arith, ap length e, length-append taken more)) (λ k l. same k (omega (arith, l, x.within, b.capacity))) x.in_steps;
-        items = x.items;
-        fits = x.fits;
-        all = on_both r x.all none (λ p q. ap (λ ys. ys ++ more) p ∙ q);
-        error = if_err r x.error (λ error f. (
-          omega (arith, f.0, length-append x.others more),
-          f.1,
-          subst (λ k. LacksRoom size new k error) (ap (λ n. min (n + 1) usize_max) (same (length x.others - 1) (omega (arith, f.0, taken_is)) ∙ ap by (omega (arith, f.0, length-append x.others more)))) f.2,
-        ));
-      }
+      let begins : all ≡ x.front ++ others = e ∙ ap (λ ys. ys ++ more) x.begins ∙ append_assoc x.front x.others more in
+      let in_steps = GrowsInSteps-counted size lower by (length head + length taken) (length more) (length head + length all) b (omega (arith, ap length e, length-append taken more)) (λ k l. same k (omega (arith, l, x.within, b.capacity))) x.in_steps in
+      grind (arith, begins, in_steps, length-append, same, taken_is)
 
 -- the lower bound of an `Items`
 abbrev pub items_lower : {T : Type 0} → RemainingItems T → ℕ
@@ -47,17 +34,12 @@ module _ {T : Type 0} (lower : ℕ → ℕ) where
 
 -- extensions by an `Items`
 module _ {T A : Type 0} (size : ℕ) (iter after : RemainingItems T) (old : Vector T A) where
-  Extends-by : (r : Result Unit TryReserveError) (new : Vector T A) (lower : ℕ → ℕ) (xs : List T) (last : RemainingItems T) → YieldsWithLower takes_item (LowerExactly items_lower) lower iter xs last → OnOk r (last.items ≡ []) → Extends size lower old old.items xs r new
-      → Extends size (lower_bound_of iter.hint) old old.items iter.items r new
-  Extends-by r new lower xs last yields none x =
-      Extends-yields size lower (lower_bound_of iter.hint) (SameBlock-refl old) old.items xs last.items (λ k h. items-yields lower iter xs last yields k (omega (arith, h))) iter.items (items-rest lower iter xs last yields) r none new x
-
   pub ExtendsAll-items : (new : Vector T A) → Takes takes_item (LowerExactly items_lower) iter (λ lower xs last. takes_item last None after × Extends size lower old old.items xs (Ok tt) new) → Extends size (lower_bound_of iter.hint) old old.items iter.items (Ok tt) new
-  ExtendsAll-items new e = Extends-by (Ok tt) new e.lower e.taken e.last e.yields e.outcome.0.0.0 e.outcome.1
+  ExtendsAll-items new e = grind (arith, Extends-yields, SameBlock-refl, items-yields, items-rest)
 
   pub ExtendsFull-items : (error : TryReserveError) (new : Vector T A) → Takes takes_item (LowerExactly items_lower) iter (λ lower xs last. (last ≡ after) × (stop : Extends size lower old old.items xs (Err error) new) × (length stop.others ≡ 1))
       → Extends size (lower_bound_of iter.hint) old old.items iter.items (Err error) new
-  ExtendsFull-items error new e = Extends-by (Err error) new e.lower e.taken e.last e.yields tt e.outcome.1
+  ExtendsFull-items error new e = grind (arith, Extends-yields, SameBlock-refl, items-yields, items-rest)
 
   -- where the bound is how many remain, capacity for them is reserved at once
   pub ExtendsAll-counted : (new : Vector T A) → Takes takes_item (LowerExactly items_lower) iter (λ lower xs last. takes_item last None after × Extends size lower old old.items xs (Ok tt) new) → iter.hint ≡ None → length iter.items ≤ usize_max

@@ -1,8 +1,8 @@
 -- Elements for which a closure is called with the last one kept, and of which the kept ones were moved down.
-use Rattle.aa_vec.proofs.Common.{IsCallableAlong, ◌≡◌, ℕ, zero, suc, ◌+◌, ◌-◌, ◌≤◌, ◌<◌, Bool, true, false, not, List, [], ◌∷◌, ◌++◌, length, map, take, drop, refl, sym, ap, ◌∙◌, subst, arith, append_assoc, length-append, HasTail, SetsTail, tail_items, kept_after_removed, ChainsFrom, Deduplicated, MayChainFrom, MayDeduplicate, Deduplicates, ChainsUntil, ChainsOnTail, Vector, len, Becomes, same_from_push}
+use Rattle.aa_vec.proofs.Common.{IsCallableAlong, ◌≡◌, ℕ, zero, suc, ◌+◌, ◌-◌, ◌≤◌, ◌<◌, Bool, true, false, not, List, [], ◌∷◌, ◌++◌, length, map, take, drop, refl, sym, ap, ◌∙◌, subst, arith, append_assoc, length-append, HasTail, SetsTail, tail_items, ChainsFrom, Deduplicated, MayChainFrom, MayDeduplicate, Deduplicates, ChainsUntil, ChainsOnTail, Vector, len, Becomes, same_from_push}
 use Rattle.aa_vec.proofs.Becoming.{Becomes-refl}
 use Rattle.aa_vec.proofs.Chains.{split_last}
-use Rattle.aa_vec.proofs.Closed.{marks, removed_count, removed-not}
+use Rattle.aa_vec.proofs.Closed.{marks, removed-not}
 use Rattle.aa_vec.proofs.Stages.{Turn, Stage, Turned, turned, start-len, stage-start, stage-ended}
 use Rattle.aa_vec.proofs.Tails.{count, replaced_are, replaced_tail}
 
@@ -86,23 +86,11 @@ module _ {F T : Type 0} (Calls : F → T → T → Bool → F → T → T → Ty
             are = replaced_are v gap n has_tail w asked.left _ same (ap (λ s. s.capacity) asked.becomes) long asked.spare;
             long = same;
             becomes = (_, asked.becomes);
-            may = λ m. record {
-              some = omega (arith, ap length items, length-append front (r.last ∷ []));
-              along = λ fr l e. subst (λ y. MayChainFrom Calls Takes g y (drop 1 (drop k asked.left))) (same_from_push front fr r.last l (sym items ∙ e)).1 (r.may (m.along asked.front asked.last asked.had));
-            };
+            may = λ m. grind (arith, length-append, same_from_push, items, r.may, m);
             ends = λ results t ys e.
                 let s = same_from_push e.front front e.last r.last (sym e.had ∙ items) in
                 let q = r.ends e.results t e.left (subst (λ y. ChainsFrom Calls g y (drop 1 (drop k asked.left)) e.results t e.left) s.1 e.called) in
-                record {
-                  front = asked.front;
-                  last = asked.last;
-                  results = q.0;
-                  left = r.before ++ e.left;
-                  had = asked.had;
-                  called = q.1;
-                  stay = q.2 ∙ ap (λ m. marks k m (map not e.results)) many ∙ ap (marks k n) e.stay;
-                  all = e.all ∙ ap (λ l. l ++ e.left) s.0 ∙ append_assoc asked.front r.before e.left;
-                };
+                grind (arith, append_assoc, s, q, e, asked.front, asked.last, q.0, r.before ++ e.left);
           }
 
 -- there is none
@@ -115,22 +103,12 @@ module _ {F T A : Type 0} {Calls : F → T → T → Bool → F → T → T → 
   chained-turn {f = f} {h = h} {g = g} {old = old} {v = v} {w = w} s many asked = turned (Told Calls) (May Calls Takes) f (take 1 old.items) (drop 1 old.items) old s many (λ has_tail. turn-chained Calls Takes h v _ _ has_tail _ g w asked)
 
   pub chained-start : {f : F} {old v : Vector T A} {end : ℕ} (rest : ℕ) → SetsTail old 1 v → 1 + rest ≡ len old → end ≡ len old → IsCallableAlong Calls Takes f old.items → Stage (Told Calls) (May Calls Takes) f (take 1 old.items) (drop 1 old.items) old f v 1 end × (1 ≡ len v)
-  chained-start {f = f} {old = old} {end = end} rest set some all may =
-      let within : 1 ≤ end = omega (arith, some, all) in
-      (stage-start (Told Calls) (May Calls Takes) set within all (may_all Calls Takes f old.items (omega (arith, some)) may.along), start-len (Told Calls) (May Calls Takes) set within all)
+  chained-start {f = f} {old = old} {end = end} rest set some all may = grind (arith, stage-start, may_all, start-len)
 
   -- the closure was called for all
   pub Deduplicates-ended : {f g : F} {old w : Vector T A} {at end : ℕ} → Stage (Told Calls) (May Calls Takes) f (take 1 old.items) (drop 1 old.items) old g w at end → at ≡ end → end ≡ len old → Deduplicates Calls f old g w
   Deduplicates-ended {f = f} {g = g} {old = old} {w = w} {at = at} {end = end} s e all =
       let q = stage-ended (Told Calls) (May Calls Takes) f (take 1 old.items) (drop 1 old.items) old g w at end s e (λ yet none m. let p = split_last w.items m.some in rw none (record { front = p.0; last = p.1; results = []; left = p.1 ∷ []; had = p.2; called = (refl, refl); stay = refl; all = p.2 })) in let r = q.1 in
-      record {
-        results = r.results;
-        left = w.items;
-        called = whole Calls Takes f old.items q.0 g w.items r;
-        runs = q.2;
-        few = omega (arith, q.3, ap removed_count r.stay, removed-not r.results);
-        fewer = omega (arith, s.here, s.within, all);
-        becomes = subst (λ s. Becomes old w.items (kept_after_removed s) q.2 w) (sym r.stay) q.4;
-      }
+      grind (arith, removed-not, whole Calls Takes f old.items q.0 g w.items r, w.items, r.results, q.2)
 
 pub ruleset ended = (Deduplicates-ended, Deduplicates-none, chained-start)

@@ -1,5 +1,5 @@
 -- A vector to which items of an iterator are appended.
-use Rattle.aa_vec.proofs.Common.{◌≡◌, ℕ, zero, suc, ◌+◌, ◌-◌, ◌<◌, ◌≤◌, List, [], ◌∷◌, ◌++◌, length, Option, Some, None, Ok, append_assoc, refl, sym, ap, ◌∙◌, subst, arith, length-append, min, map, Yields, Drains, append-nil, TryReserveError, usize_max, Vector, len, HasRoom, LacksRoom, Writes, Placed, FillsGap, GrowsInSteps, YieldsWithLower, Takes, Extends, ExtendResult, YieldsCopies, Result, Err, OnOk, IfErr, WholeRun, Becomes, with_room, IsNew, CollectResult, HasExtended, MatchResult}
+use Rattle.aa_vec.proofs.Common.{◌≡◌, ℕ, zero, suc, ◌+◌, ◌-◌, ◌<◌, ◌≤◌, List, [], ◌∷◌, ◌++◌, length, Option, Some, None, Ok, append_assoc, refl, sym, ap, ◌∙◌, subst, arith, length-append, min, map, Yields, Drains, append-nil, TryReserveError, usize_max, Vector, len, HasRoom, LacksRoom, Writes, Placed, FillsGap, GrowsInSteps, YieldsWithLower, Takes, Extends, ExtendResult, YieldsCopies, Result, Err, OnOk, IfErr, WholeRun, Becomes, with_room, IsNew, CollectResult, HasExtended, MatchResult, rules}
 use Rattle.std.specs.Borrow.{Bor}
 use Rattle.aa_vec.proofs.Outcomes.{on_ok}
 use Rattle.std.proofs.iter.runs.Consumers.{total_runs}
@@ -83,9 +83,7 @@ module _ {S T : Type 0} (steps : S → Option T → S → Type 0) (LowerIs : S �
     -- the block of an extension, and the items that it appended
     Extends-has : (lower : ℕ → ℕ) (taken xs : List T) (r : Result Unit TryReserveError) (new : Vector T A) → Extends size lower old old.items taken r new → new.items ≡ old.items ++ xs
         → (new.written ≡ old.written + (len new - len old)) × (new.runs ≡ old.runs + (len new - len old)) → HasExtended old xs new
-    Extends-has lower taken xs r new x e w =
-        let k = GrowsInSteps-keeps _ _ _ x.in_steps in let count : len new ≡ len old + length xs = ap length e ∙ length-append old.items xs in
-        record { items = e; capacity = GrowsInSteps-rises _ _ _ x.in_steps; growth = k.0; alloc = k.1; written = omega (arith, w.0, count); runs = omega (arith, w.1, count) }
+    Extends-has lower taken xs r new x e w = grind (arith, GrowsInSteps-keeps, length-append, GrowsInSteps-rises)
 
     -- an extension in the words of the trait `Extend`
     pub Extends-ran : (after : S) (r : Result Unit TryReserveError) (new : Vector T A) → ExtendResult steps LowerIs size iter old after r new
@@ -108,16 +106,10 @@ module _ {S T : Type 0} (steps : S → Option T → S → Type 0) (LowerIs : S �
       pub writes : Writes old (length front) (length front) v
 
     pub Placing-start : (n : ℕ) × LowerIs iter n → len old ≤ old.capacity → Placing iter old
-    Placing-start first h = record {
-      front = [];
-      lower = λ _. first.0;
-      yields = (first.1, refl);
-      within = h;
-      in_steps = in_block (SameBlock-refl old);
-      items = sym (append-nil old.items);
-      fits = h;
-      writes = omega arith;
-    }
+    Placing-start first h =
+        let yields : YieldsWithLower steps LowerIs (λ _. first.0) iter [] iter = (first.1, refl) in
+        let in_steps : GrowsInSteps size (λ _. first.0) (len old + 0) old old = in_block (SameBlock-refl old) in
+        search (rules, arith, yields, in_steps, sym (append-nil old.items))
 
     module _ (s : S) (v : Vector T A) (p : Placing s v) where
       count : len v ≡ len old + length p.front

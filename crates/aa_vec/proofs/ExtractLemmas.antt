@@ -1,5 +1,5 @@
 -- Calls that take elements out of a range.
-use Rattle.aa_vec.proofs.Common.{re_v, ◌≡◌, ℕ, ◌+◌, ◌-◌, ◌≤◌, Bool, false, not, List, [], ◌∷◌, ◌++◌, length, drop, Option, Some, None, refl, sym, ap, ◌∙◌, subst, arith, length-append, zero-add, MutBor, MatchOption, take-append-drop, run-zero, HasTail, SetsTail, ClosesTwoGaps, tail_items, EndsTrue, MayCallInOrder, kept, ClosesExtract, ExtractsRange, Extracts, KeepsWhen, Picks, Vector, len, Becomes, moved_over, run_count, ExtractBy, run}
+use Rattle.aa_vec.proofs.Common.{re_v, ◌≡◌, ℕ, ◌+◌, ◌-◌, ◌≤◌, Bool, false, not, List, [], ◌∷◌, ◌++◌, length, drop, Option, refl, sym, ap, ◌∙◌, arith, length-append, zero-add, MutBor, take-append-drop, run-zero, HasTail, SetsTail, ClosesTwoGaps, tail_items, MayCallInOrder, ClosesExtract, ExtractsRange, Extracts, KeepsWhen, Picks, Vector, len, ExtractBy, run, rules}
 use Rattle.aa_vec.specs.Drain.{drain_remaining}
 use Rattle.aa_vec.specs.Extract.{extract_kept, extract_remaining, extract_tail}
 use Rattle.aa_vec.proofs.TailLemmas.{still_tail, still_are, part_tail, later_part}
@@ -14,24 +14,13 @@ module _ {F T : Type 0} (Calls : F → T → Bool → F → T → Type 0) (Takes
   may_spare f [] may = tt
   may_spare f (x ∷ xs) may = (may.0, λ stays next y a. may_spare next xs (may.1 (not stays) next y a))
 
--- a range between these ends is taken
-pub ExtractsRange-bounds : {T A : Type 0} {old : Vector T A} {d : ExtractBy T A} {p : ℕ × ℕ} {s e : ℕ} → p ≡ (s, e) → ExtractsRange old p.0 p.1 d → ExtractsRange old s e d
-ExtractsRange-bounds {old = old} {d} same t = subst (λ p. ExtractsRange old p.0 p.1 d) same t
-
--- a range is taken, and the closure was not called yet
-module _ {T A : Type 0} (old new : Vector T A) (a b total : ℕ) (range : (a ≤ b) × (b ≤ len old)) (set_count : a + total ≡ len old) (sets : SetsTail old a new) where
-  pub range_extracts : (lent : MutBor (Vector T A)) (ordered : (0 ≤ 0) × (0 ≤ b - a) × (b - a ≤ total)) (held : HasTail new 0 0 × HasTail new 0 (total - 0))
-      → ExtractsRange old a b (record { vec = re_v new lent; kept = 0; front = 0; end = b - a; total = total; ordered = ordered; held = held })
+-- a range is taken, between the two ends that `bounds_of` returned, and the closure was not called yet
+module _ {T A : Type 0} {old new : Vector T A} {p : ℕ × ℕ} {s e : ℕ} {Known : Type 0} (total : ℕ) (same : p ≡ (s, e)) (known : (s ≤ e) × (e ≤ len old) × Known) (count : p.0 + total ≡ len old) (sets : SetsTail old p.0 new) where
+  pub range_extracts : (lent : MutBor (Vector T A)) (ordered : (0 ≤ 0) × (0 ≤ p.1 - p.0) × (p.1 - p.0 ≤ total)) (held : HasTail new 0 0 × HasTail new 0 (total - 0))
+      → ExtractsRange old s e (record { vec = re_v new lent; kept = 0; front = 0; end = p.1 - p.0; total = total; ordered = ordered; held = held })
   unfolding extract_kept extract_remaining extract_tail drain_remaining run
   range_extracts lent ordered held =
-      let takes = range_drains old new a b total range set_count sets lent (omega arith, omega arith, ordered.2) (range_held old new a b total range set_count sets) in
-      record {
-        becomes = sets.becomes;
-        kept = run-zero (drop 0 new.spare) 0;
-        rest = takes.rest;
-        tail = takes.tail;
-        none = refl;
-      }
+      let takes = range_drains total same known count sets lent (omega arith, omega arith, ordered.2) (range_held total same known count sets) in search (rules, sets, takes, run-zero (drop 0 new.spare) 0)
 
 module _ {T A : Type 0} (e : ExtractBy T A) where
   -- what remains of the range, and what is after it
@@ -50,29 +39,12 @@ module _ {T A : Type 0} (e : ExtractBy T A) where
           (omega (arith, e.held.1.0, ap len picks.becomes, ap (λ v. v.capacity) picks.becomes, picks.within, e.ordered)) picks.above,
     )
 
-    -- what is left of the range
-    picked_cases : (r : Option T) → MatchOption r ((kept picks.calls ≡ []) × (next ≡ e.end)) (λ x. (kept picks.calls ≡ x ∷ []) × EndsTrue picks.calls)
-        → MatchOption r ((kept picks.calls ≡ []) × (tail_items new next (e.end - next) ≡ [])) (λ x. (kept picks.calls ≡ x ∷ []) × EndsTrue picks.calls)
-    picked_cases None c = (c.0, ap (tail_items new next) (omega (arith, c.1)) ∙ run-zero (drop next new.spare) 0)
-    picked_cases (Some x) c = c
-
     pub picked_extracts : (ordered : (e.kept + stay ≤ next) × (next ≤ e.end) × (e.end ≤ e.total)) (held : HasTail new 0 (e.kept + stay) × HasTail new next (e.total - next))
         → Extracts Calls f e item g (record { vec = re_v new e.vec; kept = e.kept + stay; front = next; end = e.end; total = e.total; ordered = ordered; held = held })
     unfolding extract_kept extract_remaining extract_tail run
     picked_extracts ordered held =
         let many : next ≡ e.front + length picks.calls = picks.counts.1 in
-        record {
-          calls = picks.calls;
-          called = picks.called;
-          cases = picked_cases item picks.cases;
-          count = omega (arith, picks.counts, asked_parts picks.calls, e.ordered);
-          kept = picks.kept_items;
-          rest = still_are e.vec.now new next next (e.end - next) picks.above ∙ ap (λ i. tail_items e.vec.now i (e.end - next)) many
-              ∙ later_part e.vec.now e.front (length picks.calls) (e.end - e.front) (e.end - next) (omega (arith, many, picks.within)) rest_stand;
-          lender = refl;
-          tail = still_are e.vec.now new e.end e.end (e.total - e.end) (further new.spare e.vec.now.spare next next e.end e.end (omega (arith, picks.within)) refl picks.above);
-          becomes = subst (λ m. let moved = moved_over (e.front - e.kept) m in Becomes e.vec.now e.vec.now.items moved (run_count moved) new) picks.counts.0 picks.becomes;
-        }
+        grind (arith, picks.called, asked_parts picks.calls, still_are e.vec.now new next next (e.end - next) picks.above, later_part e.vec.now e.front (length picks.calls) (e.end - e.front) (e.end - next) (omega (arith, many, picks.within)) rest_stand, still_are e.vec.now new e.end e.end (e.total - e.end) (further new.spare e.vec.now.spare next next e.end e.end (omega (arith, picks.within)) refl picks.above))
 
   -- the untested elements and what is after the range are side by side
   closed_parts : tail_items e.vec.now e.front (e.total - e.front) ≡ extract_remaining e ++ extract_tail e

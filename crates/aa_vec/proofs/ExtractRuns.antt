@@ -1,5 +1,5 @@
 -- What calls that take elements out of a range leave, one after the other.
-use Rattle.aa_vec.proofs.Common.{◌≡◌, ℕ, suc, ◌+◌, ◌-◌, ◌<◌, ◌≤◌, Bool, true, not, List, [], ◌∷◌, ◌++◌, length, map, take, drop, Option, Some, None, refl, sym, ap, ◌∙◌, subst, arith, inl, inr, append_assoc, length-append, length-drop, length-take, filter, Yields, append-nil, drop-drop, filter-append, length-map, Call, CalledInOrder, MayCallInOrder, IsCallableInOrder, kept, passed_over, Extracts, extract_kept, extract_remaining, ExtractBy, ExtractIf, MakesProgress, at_most, map-append, Extracted, ExtractsAlong, extract_count, extract_vec, EndsTrue, moved_over, run_count}
+use Rattle.aa_vec.proofs.Common.{◌≡◌, ℕ, suc, ◌+◌, ◌-◌, ◌<◌, ◌≤◌, Bool, true, List, [], ◌∷◌, ◌++◌, length, map, take, drop, Option, Some, None, refl, sym, ap, ◌∙◌, subst, arith, inl, inr, append_assoc, length-append, length-drop, length-take, filter, Yields, append-nil, drop-drop, filter-append, length-map, Call, CalledInOrder, MayCallInOrder, IsCallableInOrder, kept, passed_over, Extracts, extract_kept, extract_remaining, ExtractBy, ExtractIf, MakesProgress, at_most, map-append, Extracted, ExtractsAlong, extract_count, extract_vec, EndsTrue, moved_over, run_count, Becomes}
 use Rattle.std.proofs.Math.Nat.{add_assoc}
 use lib.Seq.{take-add}
 use Rattle.std.proofs.lemmas.List.Filters.{length-filter_both}
@@ -11,8 +11,7 @@ chosen-append p calls more = ap (map (λ t. t.left)) (filter-append p calls more
 
 -- of the tested elements some are kept, and the others were removed
 pub asked_parts : {T : Type 0} (calls : List (Call T)) → length calls ≡ length (passed_over calls) + length (kept calls)
-asked_parts calls =
-    omega (arith, length-filter_both (λ t. t.result) (λ t. not t.result) (λ t. refl) calls, length-map (filter (λ t. t.result) calls) (λ t. t.left), length-map (filter (λ t. not t.result) calls) (λ t. t.left))
+asked_parts calls = grind (arith, length-filter_both, length-map)
 
 module _ {F T : Type 0} (Calls : F → T → Bool → F → T → Type 0) where
   -- as many were tested as there are calls
@@ -67,22 +66,12 @@ module _ {F T : Type 0} (Calls : F → T → Bool → F → T → Type 0) where
 
         pub Extracted-then : Extracted Calls f s (xs ++ taken) g w
         Extracted-then =
-            let moved : ℕ = moved_over (extract_count t) (length (passed_over next.calls)) in let passed = chosen-append (λ t. not t.result) now.calls next.calls in
-            record {
-              calls = all;
-              called = rw (length-append now.calls next.calls, take-add (length now.calls) (length next.calls) (extract_remaining s), ← now.rest)
-                  (asked-append f h g (take (length now.calls) (extract_remaining s)) (take (length next.calls) (extract_remaining t)) now.calls next.calls now.called next.called);
-              items = ap (λ l. l ++ taken) now.items ∙ ap (λ l. kept now.calls ++ l) (sym items) ∙ sym (chosen-append (λ t. t.result) now.calls next.calls);
-              kept = rw (next.kept, now.kept, passed) (append_assoc (extract_kept s) (passed_over now.calls) (passed_over next.calls));
-              rest = next.rest ∙ ap (drop (length next.calls)) now.rest ∙ drop-drop (length next.calls) (length now.calls) (extract_remaining s) ∙ ap (λ n. drop n (extract_remaining s)) (sym (length-append now.calls next.calls));
-              lender = next.lender ∙ now.lender;
-              tail = next.tail ∙ now.tail;
-              count = omega (arith, next.count, ap length items, now.count, length-append xs taken);
-              moved = now.moved + moved;
-              runs = now.runs + run_count moved;
-              few = omega (arith, now.few, moved_most (extract_count t) (length (passed_over next.calls)), ap length passed, length-append (passed_over now.calls) (passed_over next.calls));
-              becomes = rw (← add_assoc s.vec.now.written, ← add_assoc s.vec.now.runs) (rw now.becomes at next.becomes);
-            }
+            let moved : ℕ = moved_over (extract_count t) (length (passed_over next.calls)) in
+            let called : CalledInOrder Calls f (take (length all) (extract_remaining s)) all g =
+            rw (length-append now.calls next.calls, take-add (length now.calls) (length next.calls) (extract_remaining s), ← now.rest)
+            (asked-append f h g (take (length now.calls) (extract_remaining s)) (take (length next.calls) (extract_remaining t)) now.calls next.calls now.called next.called) in
+            let becomes : Becomes s.vec.now s.vec.now.items (now.moved + moved) (now.runs + run_count moved) w.vec.now = rw (← add_assoc s.vec.now.written, ← add_assoc s.vec.now.runs) (rw now.becomes at next.becomes) in
+            grind (arith, called, becomes, chosen-append, append_assoc, drop-drop, length-append, moved_most)
 
       -- an element was taken out
       pub Extracted-more : (x : T) → Extracts Calls h t (Some x) g w → ExtractedTo f s (xs ++ x ∷ []) g w
@@ -102,9 +91,7 @@ module _ {F T : Type 0} (Calls : F → T → Bool → F → T → Type 0) where
     -- after a call that removed one, the closure may be called for the others, and they are fewer
     module _ (f g : F) (s t : ExtractBy T A) (x : T) (next : Extracts Calls f s (Some x) g t) where
       pub extracts_fewer : length (extract_remaining t) < length (extract_remaining s)
-      extracts_fewer =
-          let q : ℕ = length next.calls in let ys : List T = extract_remaining s in
-          omega (arith, asked_parts next.calls, ap length next.cases.0, asked_count f g (take q ys) next.calls next.called, length-take q ys, ap length next.rest, length-drop q ys)
+      extracts_fewer = grind (arith, asked_parts, asked_count, length-take, length-drop)
 
       pub extracts_may : (Takes : F → T → Type 0) → IsCallableInOrder Calls Takes f (extract_remaining s) → IsCallableInOrder Calls Takes g (extract_remaining t)
       extracts_may Takes may = record { along = subst (MayCallInOrder Calls Takes g) (sym next.rest) (may_after Takes f g (extract_remaining s) next.calls may.along next.called) }

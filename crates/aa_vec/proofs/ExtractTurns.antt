@@ -1,5 +1,5 @@
 -- Elements that a closure takes out of a range.
-use Rattle.aa_vec.proofs.Common.{◌≡◌, ℕ, zero, suc, ◌+◌, ◌-◌, ◌<◌, ◌≤◌, Bool, true, false, List, [], ◌∷◌, ◌++◌, length, map, take, drop, Option, Some, None, refl, sym, ap, ◌∙◌, subst, arith, inr, append_assoc, length-append, length-drop, slice_set, MatchOption, drop-append-le, drop-drop, drop-map, drop-set-lt, drop_all, drop_at, length-map, length-take-le, take_at, HasTail, SetsTail, ClosesGap, tail_items, with_spare, Call, CalledInOrder, EndsTrue, kept, passed_over, KeepsWhen, CallsUntil, CallsOnTail, Picks, Vector, len, CallsAndShifts, moved_over, run_count}
+use Rattle.aa_vec.proofs.Common.{◌≡◌, ℕ, zero, suc, ◌+◌, ◌-◌, ◌<◌, ◌≤◌, Bool, true, false, List, [], ◌∷◌, ◌++◌, length, map, take, drop, Option, Some, None, refl, sym, ap, ◌∙◌, subst, arith, inr, append_assoc, length-append, length-drop, slice_set, MatchOption, drop-append-le, drop-drop, drop-map, drop-set-lt, drop_all, drop_at, length-map, length-take-le, take_at, HasTail, SetsTail, ClosesGap, tail_items, with_spare, Call, CalledInOrder, EndsTrue, kept, passed_over, KeepsWhen, CallsUntil, CallsOnTail, Picks, Vector, len, CallsAndShifts}
 use Rattle.aa_vec.proofs.Becoming.{Becomes-holds}
 use Rattle.aa_vec.proofs.ExtractRuns.{asked_parts}
 use Rattle.aa_vec.proofs.TailLemmas.{still_tail, still_are}
@@ -62,9 +62,7 @@ module _ {T A : Type 0} {old joined : Vector T A} {low : ℕ} (front end : ℕ) 
 
   -- the first are items, and the closure may be called for the next
   pub joined_stand : HasTail joined (front - low) (end - front)
-  joined_stand =
-      let long : len joined ≡ len old + low = omega (arith, ap len joins.becomes, length-append old.items (tail_items old 0 low), count old 0 low before) in
-      still_tail old joined front gap n has_tail (omega (arith, has_tail.0, long, ap (λ u. u.capacity) joins.becomes, ordered.0)) apart
+  joined_stand = grind (arith, length-append old.items (tail_items old 0 low), count old 0 low before, still_tail, apart)
 
   module _ {F : Type 0} (Keeps : F → T → Bool → F → T → Type 0) {f g : F} {stay : ℕ} {down : Vector T A} (keeps : CallsAndShifts (KeepsWhen false Keeps) f joined (front - low) (end - front) stay g down) where
     abbrev left : List T
@@ -92,56 +90,17 @@ module _ {T A : Type 0} {old joined : Vector T A} {low : ℕ} (front end : ℕ) 
       stays = tail_items old 0 low ++ take stay left
 
       items : w.items ≡ old.items ++ stays
-      items = ap (λ v. v.items) differs ∙ moved_items keeps.left gap n turned.has_tail stay turned.within down keeps.closes ∙ ap (λ v. v.items ++ take stay (tail_items keeps.left gap n)) keeps.calls.leaves.same
-          ∙ ap (λ l. joined.items ++ take stay l) turned.are ∙ ap (λ u. u.items ++ take stay left) joins.becomes ∙ append_assoc old.items (tail_items old 0 low) (take stay left)
-
-      back : drop (len old) w.items ≡ stays
-      back = ap (drop (len old)) items ∙ drop_at old.items stays (len old) refl
+      items = grind (arith, moved_items, turned, append_assoc)
 
       back_long : length stays ≡ low + stay
       back_long = omega (arith, length-append (tail_items old 0 low) (take stay left), count old 0 low before, length-take-le stay left (omega (arith, turned.within, long)))
 
       set_count : len w - len old ≡ low + stay
-      set_count = omega (arith, ap length back, back_long, length-drop (len old) w.items)
+      set_count = grind (arith, back_long, length-drop, items, drop_at)
 
       picked : (j next : ℕ) (item : Option T) → next ≡ front + (stay + j) → stay + j ≤ n → length (kept calls.calls) ≡ j → drop (stay + j) left ≡ drop (stay + j) (tail_items old front n) → drop (gap + j) w.spare ≡ drop (gap + j) down.spare
           → MatchOption item ((kept calls.calls ≡ []) × (next ≡ end)) (λ x. (kept calls.calls ≡ x ∷ []) × EndsTrue calls.calls) → Picks Keeps f old low front end stay next item g new
-      picked j next item e fits many same beyond cases = record {
-        calls = calls.calls;
-        called = calls.called;
-        cases = cases;
-        counts = (sym calls.few, omega (arith, e, many, calls.few, asked_parts calls.calls));
-        becomes =
-            let all = rw joins.becomes at (rw keeps.calls.leaves.same at (rw keeps.closes.becomes at (rw differs at set.becomes))) in
-            Becomes-holds old old.items (moved_over gap stay) (run_count (moved_over gap stay)) new (record {
-              items = ap (λ u. u.items) set.becomes ∙ ap (take (len old)) items ∙ take_at old.items stays (len old) refl;
-              block = record { capacity = ap (λ u. u.capacity) all; growth = ap (λ u. u.growth) all; grown = ap (λ u. u.grown) all; alloc = ap (λ u. u.alloc) all };
-            }) (record { written = omega (arith, ap (λ u. u.written) all); runs = omega (arith, ap (λ u. u.runs) all) });
-        has_tail = subst (HasTail new 0) set_count set.has_tail;
-        kept_items = ap (tail_items new 0) (sym set_count) ∙ set.elements ∙ back ∙ ap (λ l. tail_items old 0 low ++ l) (sym calls.stays);
-        within = (omega (arith, e, ordered), omega (arith, e), omega (arith, e, fits, ordered));
-        above =
-            let some : T → Option T = λ x. Some x in let was = tail_items old front n in let there : next ≡ low + stay + (gap + j) = omega (arith, e, ordered) in
-            cc (
-              there,
-              drop-drop (gap + j) (low + stay) new.spare,
-              set.spare,
-              back,
-              drop_at (map some stays) w.spare (low + stay) (length-map stays some ∙ back_long),
-              beyond,
-              drop-drop j gap down.spare,
-              keeps.closes.spare,
-              keeps.calls.leaves.spare,
-              apart,
-              drop-drop j stay (map some left ++ drop n (drop front old.spare)),
-              others_in left long (stay + j) fits,
-              same,
-              others_in was (count old front n has_tail) (stay + j) fits,
-              parts old front n has_tail,
-              drop-drop (stay + j) front old.spare,
-              e,
-            );
-      }
+      picked j next item e fits many same beyond cases = grind (arith, asked_parts calls.calls, drop-drop (gap + j) (low + stay) new.spare, drop-drop j gap down.spare, others_in left long (stay + j) fits, parts old front n has_tail, drop-drop (stay + j) front old.spare, calls, asked_parts, Becomes-holds, items, take_at, set_count, drop-drop, drop_at, length-map, back_long, apart, others_in, long, count, parts)
 
     -- none remains to be tested
     pub Picks-none : n ≤ stay → {new : Vector T A} → SetsTail down (len old) new → Picks Keeps f old low front end stay end None g new

@@ -1,9 +1,9 @@
 -- A gap before the tail of a vector: how it is made, and how items are put into it.
-use Rattle.aa_vec.proofs.Common.{◌≡◌, ℕ, ◌+◌, ◌-◌, ◌<◌, ◌≤◌, List, [], ◌∷◌, ◌++◌, length, drop, Option, Some, None, refl, sym, ap, ◌∙◌, subst, arith, length-append, length-take, if◌then◌else◌, ◌==◌, Yields, append-nil, drop-drop, with_written, IsRun, run, moved, length-moved, length-run, IsRun-long, IsRun-same, run-moved, run-moved-below, Vector, len, Becomes, with_room, view_of, IsFront, HasTail, SetsTail, ClosesGap, WidensGap, Placed, FillsGap, FillsAndCloses, Inside, OpensGap, nat_tests, YieldsForGap}
-use Rattle.aa_vec.proofs.Becoming.{Becomes-at, Becomes-more, Becomes-refl, GrowsTo-becomes}
+use Rattle.aa_vec.proofs.Common.{◌≡◌, ℕ, ◌+◌, ◌-◌, ◌<◌, ◌≤◌, List, [], ◌∷◌, ◌++◌, length, drop, Option, Some, None, refl, sym, ap, ◌∙◌, subst, arith, length-append, length-take, if◌then◌else◌, ◌==◌, Yields, append-nil, drop-drop, with_written, IsRun, run, moved, length-moved, length-run, IsRun-long, IsRun-same, run-moved, run-moved-below, Vector, len, Becomes, with_room, view_of, IsFront, HasTail, SetsTail, ClosesGap, Placed, FillsGap, FillsAndCloses, Inside, OpensGap, nat_tests, YieldsForGap, vector_in}
+use Rattle.aa_vec.proofs.Becoming.{Becomes-more, Becomes-refl, GrowsTo-becomes}
 use Rattle.aa_vec.proofs.GrowthLemmas.{MakesRoom-has}
 use Rattle.aa_vec.proofs.TailLemmas.{still_tail, still_are}
-use Rattle.aa_vec.proofs.Gaps.{run-of_drop, IsRun-to_drop, there, elements}
+use Rattle.aa_vec.proofs.Gaps.{run-of_drop, IsRun-to_drop, there}
 
 -- items that were returned after others
 module _ {S T : Type 0} (steps : S → Option T → S → Type 0) where
@@ -35,10 +35,6 @@ module _ {S T : Type 0} (steps : S → Option T → S → Type 0) where
       pub Placed-ended : 0 < left → (u : S) → steps t None u → FillsGap steps s old gap n left u v
       Placed-ended h u step = record { last = t; placed = p; stops = record { full = λ e. absurd (omega (arith, h, e)); ended = λ _. step } }
 
-      -- the gap is full
-      pub Placed-full : left ≡ 0 → FillsGap steps s old gap n 0 t v
-      Placed-full e = subst (λ k. FillsGap steps s old gap n k t v) e (record { last = t; placed = p; stops = record { full = λ _. refl; ended = λ h. absurd (omega (arith, h, e)) } })
-
     -- a gap that was filled is closed
     pub FillsAndCloses-gap : (left : ℕ) (t : S) (v w : Vector T A) → FillsGap steps s old gap n left t v → ClosesGap v left n w → FillsAndCloses steps s old gap n left t w
     FillsAndCloses-gap left t v w f c =
@@ -47,13 +43,10 @@ module _ {S T : Type 0} (steps : S → Option T → S → Type 0) where
 
 -- the places of a block whose tail was moved up
 module _ {T A : Type 0} (v : Inside T A) (front : IsFront v) (gap n : ℕ) (has_tail : HasTail (view_of v) 0 n) (room : len (view_of v) + gap + n ≤ length v.block.places) where
-  counted : len (view_of v) ≡ v.len
-  counted = length-run v.block.places 0 v.len front
+  pub fits : v.len + gap + n ≤ length v.block.places
+  fits = grind (arith, length-run)
 
-  fits : v.len + gap + n ≤ length v.block.places
-  fits = omega (arith, room, counted)
-
-  run_there : IsRun v.block.places v.len n
+  pub run_there : IsRun v.block.places v.len n
   run_there = let P : ℕ → Type 0 = λ i. IsRun v.block.places i n in subst P (omega arith) (there v front 0 n has_tail)
 
   abbrev pub raised : List (Option T)
@@ -71,28 +64,13 @@ module _ {T A : Type 0} (v : Inside T A) (front : IsFront v) (gap n : ℕ) (has_
   pub IsFront-raised : IsRun raised 0 v.len
   IsFront-raised = IsRun-same v.block.places raised 0 v.len long same-front front
 
-  pub OpensGap-view : OpensGap (view_of v) gap n (view_of (record { block = with_written v.block raised (if v.len == v.len + gap then 0 else n); len = v.len }))
-  OpensGap-view =
-      let deep : drop gap (drop v.len raised) ≡ drop (v.len + gap) raised = drop-drop gap v.len raised in
-      let up : IsRun raised (v.len + gap) n = IsRun-long raised (v.len + gap) n (ap length same-elements ∙ length-run v.block.places v.len n run_there) (omega (arith, long, fits)) in
-      grind (arith, nat_tests, deep, up, same-front, counted, long, fits, run-of_drop, IsRun-to_drop raised (v.len + gap) n up, same-elements, elements v front 0 n has_tail, ap length same-front)
+  pub OpensGap-view : OpensGap (view_of v) gap n (vector_in (with_written v.block raised (if v.len == v.len + gap then 0 else n)) v.len)
+  OpensGap-view = grind (arith, nat_tests, drop-drop, IsRun-long, same-elements, length-run, run_there, long, fits, same-front, run-of_drop, IsRun-to_drop)
 
 -- capacity is reserved, the last n items are set apart as the tail, and moved up
 module _ {T A : Type 0} (size : ℕ) (old w x : Vector T A) (gap n : ℕ) (few : n ≤ len old) (g : Becomes (with_room size old (len old) gap) old.items 0 0 w) (k : ℕ) (e : k ≡ len w) (sets : SetsTail w (k - n) x) where
-  same_len : len w ≡ len old
-  same_len = ap len g
-
-  at_end : len w - (k - n) ≡ n
-  at_end = omega (arith, few, same_len, e)
-
-  pub widen_tail : HasTail x 0 n
-  widen_tail = subst (HasTail x 0) at_end sets.has_tail
-
   pub widen_room : len x + gap + n ≤ x.capacity
-  widen_room = omega (arith, MakesRoom-has size (len old) gap old w (GrowsTo-becomes _ _ _ _ _ size gap g).room, widen_tail.0, ap len sets.becomes, length-take (k - n) w.items, same_len, e, few, ap (λ u. u.capacity) sets.becomes)
-
-  pub WidensGap-opened : (y : Vector T A) → OpensGap x gap n y → WidensGap size old gap n y
-  WidensGap-opened y o = grind (arith, same_len, Becomes-at, at_end)
+  widen_room = grind (arith, MakesRoom-has, GrowsTo-becomes, length-take)
 
 -- a gap, as it is opened and filled
-pub ruleset gaps = (Placed-ended, Placed-full, widen_tail, widen_room, WidensGap-opened)
+pub ruleset gaps = (Placed-ended, widen_room)

@@ -1,5 +1,5 @@
 -- Closures that pass their arguments on to another: what holds of the one holds of the other.
-use Rattle.aa_vec.proofs.Common.{◌≡◌, Bool, true, false, List, [], ◌∷◌, ap, sym, ◌∙◌, Call, CalledInOrder, MayCallInOrder, IsCallableInOrder, Retains, ChainsFrom, Deduplicated, MayChainFrom, MayDeduplicate, IsCallableAlong, Deduplicates, Vector}
+use Rattle.aa_vec.proofs.Common.{◌≡◌, Bool, true, false, List, [], ◌∷◌, ap, sym, ◌∙◌, Call, CalledInOrder, MayCallInOrder, IsCallableInOrder, Retains, ChainsFrom, Deduplicated, MayChainFrom, IsCallableAlong, Deduplicates, Vector, arith}
 
 -- a closure in the state q calls another, which is in the state `inner q`
 module _ {Q F T : Type 0} (inner : Q → F) (Outer : Q → T → Bool → Q → T → Type 0) (Inner : F → T → Bool → F → T → Type 0)
@@ -23,33 +23,25 @@ module _ {Q F T : Type 0} (inner : Q → F) (Outer : Q → T → Bool → Q → 
 -- the same at two arguments
 module _ {Q F T : Type 0} (inner : Q → F) (Outer : Q → T → T → Bool → Q → T → T → Type 0) (Inner : F → T → T → Bool → F → T → T → Type 0)
     (calls : (q : Q) (x l : T) (answer : Bool) (r : Q) (y k : T) → Outer q x l answer r y k → Inner (inner q) x l answer (inner r) y k) where
-  chained_on : (q : Q) (l : T) (xs : List T) (results : List Bool) (r : Q) (ys : List T) → ChainsFrom Outer q l xs results r ys → ChainsFrom Inner (inner q) l xs results (inner r) ys
-  chained_on q l [] [] r ys c = (ap inner c.0, c.1)
-  chained_on q l (x ∷ xs) (true ∷ results) r ys c = (inner c.0, c.1, c.2, calls q x l true c.0 c.1 c.2 c.3, chained_on c.0 c.2 xs results r ys c.4)
-  chained_on q l (x ∷ xs) (false ∷ results) r ys c = (inner c.0, c.1, c.2, c.3, calls q x l false c.0 c.1 c.2 c.4, chained_on c.0 c.1 xs results r c.3 c.5, c.6)
-  chained_on q l xs results r ys c = absurd c
-
-  deduplicated_on : (q : Q) (xs : List T) (results : List Bool) (r : Q) (ys : List T) → Deduplicated Outer q xs results r ys → Deduplicated Inner (inner q) xs results (inner r) ys
-  deduplicated_on q [] results r ys d = (d.0, ap inner d.1, d.2)
-  deduplicated_on q (x ∷ xs) results r ys d = chained_on q x xs results r ys d
-
-  pub Deduplicates-on : {A : Type 0} (q : Q) (old : Vector T A) (r : Q) (new : Vector T A) → Deduplicates Outer q old r new → Deduplicates Inner (inner q) old (inner r) new
-  Deduplicates-on q old r new h = record { results = h.results; left = h.left; called = deduplicated_on q old.items h.results r h.left h.called; runs = h.runs; few = h.few; fewer = h.fewer; becomes = h.becomes }
-
-  -- where the other is borrowed under a name that each call keeps, x is the last value under that name
+  -- the other is borrowed under a name that each call keeps
   module _ {N : Type 0} (name : Q → N) (keeps : (q : Q) (x l : T) (answer : Bool) (r : Q) (y k : T) → Outer q x l answer r y k → name r ≡ name q) where
-    chain_keeps : (q : Q) (l : T) (xs : List T) (results : List Bool) (r : Q) (ys : List T) → ChainsFrom Outer q l xs results r ys → name r ≡ name q
-    chain_keeps q l [] [] r ys c = ap name c.0
-    chain_keeps q l (x ∷ xs) (true ∷ results) r ys c = chain_keeps c.0 c.2 xs results r ys c.4 ∙ keeps q x l true c.0 c.1 c.2 c.3
-    chain_keeps q l (x ∷ xs) (false ∷ results) r ys c = chain_keeps c.0 c.1 xs results r c.3 c.5 ∙ keeps q x l false c.0 c.1 c.2 c.4
-    chain_keeps q l xs results r ys c = absurd c
+    chained_on : (q : Q) (l : T) (xs : List T) (results : List Bool) (r : Q) (ys : List T) → ChainsFrom Outer q l xs results r ys → (name r ≡ name q) × ChainsFrom Inner (inner q) l xs results (inner r) ys
+    chained_on q l [] [] r ys c = (ap name c.0, (ap inner c.0, c.1))
+    chained_on q l (x ∷ xs) (true ∷ results) r ys c =
+        let on = chained_on c.0 c.2 xs results r ys c.4 in (on.0 ∙ keeps q x l true c.0 c.1 c.2 c.3, (inner c.0, c.1, c.2, calls q x l true c.0 c.1 c.2 c.3, on.1))
+    chained_on q l (x ∷ xs) (false ∷ results) r ys c =
+        let on = chained_on c.0 c.1 xs results r c.3 c.5 in (on.0 ∙ keeps q x l false c.0 c.1 c.2 c.4, (inner c.0, c.1, c.2, c.3, calls q x l false c.0 c.1 c.2 c.4, on.1, c.6))
+    chained_on q l xs results r ys c = absurd c
 
-    all_keep : (q : Q) (xs : List T) (results : List Bool) (r : Q) (ys : List T) → Deduplicated Outer q xs results r ys → name r ≡ name q
-    all_keep q [] results r ys d = ap name d.1
-    all_keep q (x ∷ xs) results r ys d = chain_keeps q x xs results r ys d
+    deduplicated_on : (q : Q) (xs : List T) (results : List Bool) (r : Q) (ys : List T) → Deduplicated Outer q xs results r ys → (name r ≡ name q) × Deduplicated Inner (inner q) xs results (inner r) ys
+    deduplicated_on q [] results r ys d = (ap name d.1, (d.0, ap inner d.1, d.2))
+    deduplicated_on q (x ∷ xs) results r ys d = chained_on q x xs results r ys d
 
+    -- x is the last value under that name
     pub Deduplicates-lent : {A : Type 0} (q : Q) (old : Vector T A) (r : Q) (new : Vector T A) (x : F) → Deduplicates Outer q old r new → (name q ≡ name r → x ≡ inner r) → Deduplicates Inner (inner q) old x new
-    Deduplicates-lent q old r new x h ends = rw (ends (sym (all_keep q old.items h.results r h.left h.called))) (Deduplicates-on q old r new h)
+    Deduplicates-lent q old r new x h ends =
+        let on = deduplicated_on q old.items h.results r h.left h.called in
+        rw (ends (sym on.0)) (record { results = h.results; left = h.left; called = on.1; runs = h.runs; few = h.few; fewer = h.fewer; becomes = h.becomes })
 
   module _ (TakesOuter : Q → T → T → Type 0) (TakesInner : F → T → T → Type 0) (takes : (q : Q) (x l : T) → TakesInner (inner q) x l → TakesOuter q x l) where
     may_chain_on : (q : Q) (l : T) (xs : List T) → MayChainFrom Inner TakesInner (inner q) l xs → MayChainFrom Outer TakesOuter q l xs
@@ -57,9 +49,5 @@ module _ {Q F T : Type 0} (inner : Q → F) (Outer : Q → T → T → Bool → 
     may_chain_on q l (x ∷ xs) may =
         (takes q x l may.0, λ r y k a. may_chain_on r k xs (may.1 (inner r) y k (calls q x l true r y k a)), λ r y k a. may_chain_on r y xs (may.2 (inner r) y k (calls q x l false r y k a)))
 
-    may_deduplicate_on : (q : Q) (xs : List T) → MayDeduplicate Inner TakesInner (inner q) xs → MayDeduplicate Outer TakesOuter q xs
-    may_deduplicate_on q [] may = tt
-    may_deduplicate_on q (x ∷ xs) may = may_chain_on q x xs may
-
     pub IsCallableAlong-on : (q : Q) (xs : List T) → IsCallableAlong Inner TakesInner (inner q) xs → IsCallableAlong Outer TakesOuter q xs
-    IsCallableAlong-on q xs may = record { along = may_deduplicate_on q xs may.along }
+    IsCallableAlong-on q xs may = grind (arith, may_chain_on)

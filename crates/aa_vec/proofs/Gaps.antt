@@ -1,5 +1,5 @@
 -- The tail of a vector, and the gap before it, as the places of its block.
-use Rattle.aa_vec.proofs.Common.{◌≡◌, ℕ, ◌+◌, ◌-◌, ◌<◌, ◌≤◌, List, [], ◌∷◌, ◌++◌, length, map, take, drop, replicate, get_or, Option, Some, None, refl, sym, ap, ◌∙◌, subst, arith, length-append, length-drop, length-set, length-take, slice_set, if◌then◌else◌, ◌==◌, drop-append-le, drop-drop, drop-map, drop-take, drop-set, drop-set-add, drop-set-lt, length-map, length-replicate, length-take-le, take-append-drop, take_at, drop_at, IsRun, length-moved, length-run, IsRun-long, IsRun-part, drop-with, run-drop, run-filled, run-moved, run-moved-below, run-split, run-take, run-is, run-set-above, IsRun-set-above, HasTail, LeavesInTail, tail_items, Vector, len, view_of, IsFront, Inside, refill, length_refill, with_places, IsRun-with-below, length-with_run, first-filled, run-one, run-push, run-with-below, cut-long, IsFilled, run, moved, with_run}
+use Rattle.aa_vec.proofs.Common.{◌≡◌, ℕ, ◌+◌, ◌-◌, ◌<◌, ◌≤◌, List, [], ◌∷◌, ◌++◌, length, map, take, drop, replicate, get_or, Option, Some, None, refl, sym, ap, ◌∙◌, subst, arith, length-append, length-drop, length-set, length-take, slice_set, if◌then◌else◌, ◌==◌, drop-append-le, drop-drop, drop-map, drop-take, drop-set, drop-set-add, drop-set-lt, length-map, length-replicate, length-take-le, take-append-drop, take_at, drop_at, IsRun, length-moved, length-run, IsRun-long, IsRun-part, drop-with, run-drop, run-filled, run-moved, run-moved-below, run-split, run-take, run-is, run-set-above, IsRun-set-above, HasTail, LeavesInTail, tail_items, Vector, len, view_of, IsFront, Inside, refill, length_refill, with_places, IsRun-with-below, length-with_run, first-filled, run-one, run-push, run-with-below, cut-long, IsFilled, run, moved, with_run, vector_in}
 
 -- if the places above two places are the same, so are the places as far above them
 pub further : {Y : Type 0} (ds es : List Y) (a b c d : ℕ) → a ≤ c → c + b ≡ d + a → drop a ds ≡ drop b es → drop c ds ≡ drop d es
@@ -65,7 +65,7 @@ drop-laid cs es l gap n h =
     grind (arith, drop-drop, drop_at (take (l + gap) cs) (es ++ drop (l + gap + n) cs) (l + gap) (length-take-le (l + gap) cs (omega (arith, h))))
 
 -- and below them the same places
-take-laid : {X : Type 0} (cs es : List (Option X)) (l gap n : ℕ) → l + gap + n ≤ length cs → take gap (drop l (with_run cs (l + gap) n es)) ≡ take gap (drop l cs)
+pub take-laid : {X : Type 0} (cs es : List (Option X)) (l gap n : ℕ) → l + gap + n ≤ length cs → take gap (drop l (with_run cs (l + gap) n es)) ≡ take gap (drop l cs)
 unfolding with_run
 take-laid cs es l gap n h =
     let long = length-take-le (l + gap) cs (omega (arith, h)) in let few = length-take-le gap (drop l cs) (omega (arith, h, length-drop l cs)) in
@@ -141,7 +141,7 @@ module _ {T A : Type 0} (v : Inside T A) (front : IsFront v) (gap n : ℕ) (has_
   abbrev pub restored : List (Option T)
   restored = with_run v.block.places (v.len + gap) n (map Some (refill n xs ws))
 
-  full : length (map (λ (x : T). Some x) (refill n xs ws)) ≡ n
+  pub full : length (map (λ (x : T). Some x) (refill n xs ws)) ≡ n
   full = length-map (refill n xs ws) (λ (x : T). Some x) ∙ sym (length_refill n xs ws count-borrowed)
 
   pub IsFront-restored : IsRun restored 0 v.len
@@ -151,7 +151,7 @@ module _ {T A : Type 0} (v : Inside T A) (front : IsFront v) (gap n : ℕ) (has_
   pub refilled : length ws ≡ length xs → refill n xs ws ≡ ws
   refilled e = take_at ws (drop (length ws) xs) n (omega (arith, e, count-borrowed))
 
-  pub LeavesInTail-view : LeavesInTail (view_of v) gap n (refill n xs ws) (view_of (record { block = with_places v.block restored; len = v.len }))
+  pub LeavesInTail-view : LeavesInTail (view_of v) gap n (refill n xs ws) (vector_in (with_places v.block restored) v.len)
   LeavesInTail-view =
       let room : v.len + gap + n ≤ length v.block.places = within v front gap n has_tail in
       record {

@@ -68,4 +68,4 @@ module _ {S T A : Type 0} (steps : S → Option T → S → Type 0) (LowerIs : S
           record { taken = taken; lower = f.0; last = e.last; yields = f.3; outcome = (inl e.outcome.0, inl (inr (made, x, new.capacity, new.growth, full))) }
 
 -- a vector of items that were collected
-pub ruleset gathered = (Collects-all)
+pub ruleset gathered = (Collects-all, LacksRest-first)

@@ -1,12 +1,6 @@
 -- Lemmas on a vector that grew while it was full.
 use Rattle.aa_raw.specs.Growths.{with_growth}
-use Rattle.aa_vec.proofs.Common.{◌≡◌, ℕ, ◌+◌, ◌-◌, ◌<◌, ◌≤◌, List, ◌++◌, length, append_assoc, append-nil, sym, Ok, Extends, refl, ap, ◌∙◌, subst, arith, min, usize_max, Growth, Doubling, InPlace, Sparing, amortized, min_capacity, Vector, SameBlock, Holds, with_room, GrowsInSteps, unchanged, grows, nat_tests, requested_with}
-
--- a growth requests no less than what is needed
-pub amortized-enough : (G : Growth) (c needed m : ℕ) → needed ≤ amortized G c needed m
-amortized-enough Doubling c needed m = omega arith
-amortized-enough Sparing c needed m = omega arith
-amortized-enough InPlace c needed m = omega arith
+use Rattle.aa_vec.proofs.Common.{◌≡◌, ℕ, ◌+◌, ◌-◌, ◌<◌, ◌≤◌, List, ◌++◌, length, append_assoc, append-nil, Ok, Extends, refl, ap, ◌∙◌, subst, arith, min, usize_max, amortized, min_capacity, Vector, SameBlock, Holds, with_room, GrowsInSteps, unchanged, grows, nat_tests, requested_with}
 
 module _ {T A : Type 0} where
   pub SameBlock-refl : (v : Vector T A) → SameBlock v v
@@ -32,20 +26,17 @@ module _ {T A : Type 0} where
 
   -- there is capacity for all, and no less than before
   pub MakesRoom-has : (size n k : ℕ) (v w : Vector T A) → MakesRoom size v n k w → k ≤ w.capacity - n
-  MakesRoom-has size n k v w m = grind (arith, nat_tests, amortized-enough v.growth v.capacity (n + k) (min_capacity size))
+  MakesRoom-has size n k v w m = grind (arith, nat_tests)
 
   pub MakesRoom-fits : (size n k : ℕ) (v w : Vector T A) → MakesRoom size v n k w → n ≤ w.capacity → n + k ≤ w.capacity
   MakesRoom-fits size n k v w m l = omega (arith, MakesRoom-has size n k v w m)
 
   pub MakesRoom-rises : (size n k : ℕ) (v w : Vector T A) → MakesRoom size v n k w → v.capacity ≤ w.capacity
-  MakesRoom-rises size n k v w m = grind (arith, nat_tests, amortized-enough v.growth v.capacity (n + k) (min_capacity size))
+  MakesRoom-rises size n k v w m = grind (arith, nat_tests)
 
   -- where they fit, nothing changes
   pub with_room-fits : (size : ℕ) (v : Vector T A) (n k : ℕ) → k ≤ v.capacity - n → SameBlock (with_room size v n k) v
   with_room-fits size v n k h = record { capacity = grind (arith, nat_tests); growth = refl; grown = grind (arith, nat_tests); alloc = refl }
-
-  pub with_room-same : (size : ℕ) (v : Vector T A) (n k : ℕ) → k ≤ v.capacity - n → with_room size v n k ≡ v
-  with_room-same size v n k h = let b = with_room-fits size v n k h in λ i. record v { capacity = sym b.capacity i; grown = sym b.grown i }
 
   pub MakesRoom-unchanged : (size n k : ℕ) (v w : Vector T A) → MakesRoom size v n k w → k ≤ v.capacity - n → SameBlock v w
   MakesRoom-unchanged size n k v w m h = record { capacity = grind (arith, nat_tests); growth = m.growth; grown = grind (arith, nat_tests); alloc = m.alloc }

@@ -39,3 +39,4 @@ pub mod SpliceFields
 pub mod Outcomes
 pub mod SpliceByItems
 pub mod Flattening
+pub mod Tidy

@@ -6,10 +6,6 @@ pub on_ok : {X E P Q : Type 0} → (r : Result X E) → OnOk r P → (P → Q) �
 on_ok (Ok x) p f = f p
 on_ok (Err e) p f = tt
 
-pub on_both : {X E P Q R : Type 0} → (r : Result X E) → OnOk r P → OnOk r Q → (P → Q → R) → OnOk r R
-on_both (Ok x) p q f = f p q
-on_both (Err e) p q f = tt
-
 pub if_err : {X E : Type 0} {P Q : E → Type 0} → (r : Result X E) → IfErr r P → ((e : E) → P e → Q e) → IfErr r Q
 if_err (Ok x) p f = tt
 if_err (Err e) p f = f e p

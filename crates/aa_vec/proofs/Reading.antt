@@ -1,5 +1,5 @@
 -- The lower bounds of an iterator that another one reads.
-use Rattle.aa_vec.proofs.Common.{◌≡◌, ℕ, List, [], ◌∷◌, Option, Some, Result, Ok, Err, IfErr, sym, ap, ◌∙◌, subst, YieldsWithLower, Takes}
+use Rattle.aa_vec.proofs.Common.{◌≡◌, ℕ, List, [], ◌∷◌, Option, Some, Result, Ok, Err, IfErr, sym, ap, ◌∙◌, subst, YieldsWithLower, Takes, rules}
 
 -- each call of the one is one of the other, in the state that it holds, under a name that is unchanged
 module _ {S T U N : Type 0} (steps : S → Option T → S → Type 0) (seen : U → Option T → U → Type 0) (LowerIs : S → ℕ → Type 0) (Told : U → ℕ → Type 0) (held : S → U) (name : S → N)
@@ -13,9 +13,7 @@ module _ {S T U N : Type 0} (steps : S → Option T → S → Type 0) (seen : U 
 
   -- the other one is left as the first holds it, if that is known by the same name
   pub Takes-read : {iter : S} {W : (ℕ → ℕ) → List T → S → Type 0} {W' : (ℕ → ℕ) → List T → U → Type 0} → ((lower : ℕ → ℕ) (xs : List T) (s : S) → name s ≡ name iter → W lower xs s → W' lower xs (held s)) → Takes steps LowerIs iter W → Takes seen Told (held iter) W'
-  Takes-read {iter} f t =
-      let yields = read t.lower iter t.taken t.last t.yields in
-      record { taken = t.taken; lower = t.lower; last = held t.last; yields = yields.1; outcome = f t.lower t.taken t.last yields.0 t.outcome }
+  Takes-read {iter} f t = search (rules, read)
 
   pub stopped_read : {E : Type 0} {iter after : S} {end : U} (F : E → (ℕ → ℕ) → List T → Type 0) (G : (e : E) (lower : ℕ → ℕ) (xs : List T) → F e lower xs → Type 0) (K : U → Type 0) (tied : name after ≡ name iter → end ≡ held after) (r : Result Unit E)
       → IfErr r (λ e. Takes steps LowerIs iter (λ lower xs last. (last ≡ after) × (full : F e lower xs) × G e lower xs full)) → IfErr r (λ _. K (held after)) → IfErr r (λ _. K end)

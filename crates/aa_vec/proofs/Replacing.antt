@@ -55,14 +55,11 @@ module _ {S T A : Type 0} (steps : S → Option T → S → Type 0) (LowerIs : S
     z_items : z.items ≡ head ++ (came ++ tail)
     z_items = ap (λ u. u.items) z_becomes
 
-    head_count : length head ≡ len old - n
-    head_count = length-take (len old - n) old.items ∙ omega arith
-
     tail_count : length tail ≡ n
     tail_count = length-drop (len old - n) old.items ∙ omega (arith, few)
 
     z_len : len z ≡ len old + length came
-    z_len = ap length z_items ∙ length-append head (came ++ tail) ∙ omega (arith, length-append came tail, head_count, tail_count, few)
+    z_len = grind (arith, z_items, length-append, tail_count, length-take)
 
     z_room : MakesRoom size old (len old) bound z
     z_room = SameBlock-becomes _ _ _ _ _ z_becomes
@@ -75,10 +72,7 @@ module _ {S T A : Type 0} (steps : S → Option T → S → Type 0) (LowerIs : S
 
     -- no further item remains
     pub Puts-within : {fails : Type 0} (end : S) → steps f.last None end → Puts steps LowerIs fails size s old bound n remaining (Ok tt) z end
-    Puts-within end ended =
-        let room = MakesRoom-same size (len old + bound) (length came - bound) z_room (with_room-fits size z _ _ (omega (arith, f.comes.count))) in
-        let all : PutsAll steps size s old bound n z end = grind (arith, nat_tests, room, z_items, z_written, f.comes.yields, ended, f.comes.count) in
-        record { all = all; writes = within; error = tt; few = tt }
+    Puts-within end ended = grind (arith, nat_tests, MakesRoom-same, z_room, with_room-fits, z_items, z_written, within)
 
     -- further items are returned
     module _ (full : left ≡ 0) (first : T) (u : S) (step : steps t (Some first) u) where
@@ -93,19 +87,11 @@ module _ {S T A : Type 0} (steps : S → Option T → S → Type 0) (LowerIs : S
         new_items : new.items ≡ head ++ ((came ++ others) ++ tail)
         new_items = ap (λ u. u.items) r.becomes ∙ put_between head came tail others z.items n z_items tail_count
 
-        all_room : MakesRoom size (with_room size old (len old) bound) (len old + bound) (length (came ++ others) - bound) new
-        all_room =
-            let roomy : Vector T A = with_room size old (len old) bound in
-            let count : len z ≡ len old + bound = omega (arith, z_len, bound_came) in
-            let more : length others ≡ length (came ++ others) - bound = omega (arith, length-append came others, bound_came) in
-            subst (λ n. MakesRoom size roomy n (length (came ++ others) - bound) new) count
-            (subst (λ k. MakesRoom size roomy (len z) k new) more (MakesRoom-same size (len z) (length others) z_room (SameBlock-becomes _ _ _ _ _ r.becomes)))
-
         all_put : PutsAll steps size s old bound n new after
-        all_put = grind (arith, nat_tests, z_len, bound_came, length-append, Yields-join, new_items, all_room, z_written, moved_none)
+        all_put = grind (arith, nat_tests, z_len, bound_came, length-append, Yields-join, new_items, z_written, moved_none)
 
         rest_within : (len old ≤ len new) × PutsWithin old (len old) n new
-        rest_within = grind (arith, nat_tests, new_items, length-append, z_len, head_count, tail_count, z_written, z_becomes, moved_most, moved_none, one_run)
+        rest_within = grind (arith, nat_tests, new_items, length-append, z_len, tail_count, z_written, z_becomes, moved_most, moved_none, one_run, length-take)
 
       pub Puts-rest : (P : A → Type 0) → ((k : S) → (m : ℕ) × LowerIs k m) → (result : Result Unit TryReserveError) (new : Vector T A) (after : S) → OnOk result (PutsRest steps size u z n first new after) → IfErr result (λ e. LacksRest steps LowerIs (P z.alloc) size u z first e after × (new ≡ z)) → bound < count_of (remaining s)
           → Puts steps LowerIs (P old.alloc) size s old bound n remaining result new after

@@ -1,7 +1,7 @@
 -- Elements tested in order, of which the kept ones were moved down.
-use Rattle.aa_vec.proofs.Common.{SetsTail, IsCallableInOrder, ◌≡◌, ℕ, zero, suc, ◌+◌, ◌-◌, ◌≤◌, Bool, true, false, List, [], ◌∷◌, ◌++◌, length, take, drop, refl, sym, ap, ◌∙◌, subst, arith, append_assoc, append-nil, HasTail, tail_items, Call, results_of, kept, kept_after_removed, CalledInOrder, MayCallInOrder, Retains, CallsUntil, CallsOnTail, Vector, len, Becomes}
+use Rattle.aa_vec.proofs.Common.{SetsTail, IsCallableInOrder, ◌≡◌, ℕ, zero, suc, ◌+◌, ◌-◌, ◌≤◌, Bool, true, false, List, [], ◌∷◌, ◌++◌, length, take, drop, refl, sym, ap, ◌∙◌, arith, append_assoc, append-nil, HasTail, tail_items, Call, results_of, kept, CalledInOrder, MayCallInOrder, Retains, CallsUntil, CallsOnTail, Vector, len}
 use Rattle.aa_vec.proofs.Becoming.{Becomes-spare}
-use Rattle.aa_vec.proofs.Closed.{marks, removed_count, removed-calls}
+use Rattle.aa_vec.proofs.Closed.{marks, removed-calls}
 use Rattle.aa_vec.proofs.Stages.{Turn, Stage, Turned, turned, stage-start, start-len, stage-ended}
 use Rattle.aa_vec.proofs.Tails.{count, replaced_are, replaced_tail}
 
@@ -59,12 +59,7 @@ module _ {F T : Type 0} (Calls : F → T → Bool → F → T → Type 0) where
             may = r.may;
             ends = λ calls t ys e.
                 let q = r.ends e.calls t e.called in
-                record {
-                  calls = q.0;
-                  called = q.1;
-                  results = q.2 ∙ ap (λ m. marks k m (results_of e.calls)) many ∙ ap (marks k n) e.results;
-                  all = e.all ∙ append_assoc w.items (take k asked.left) (kept e.calls) ∙ ap (λ s. s.items ++ (take k asked.left ++ kept e.calls)) same ∙ ap (λ l. v.items ++ l) (sym q.3);
-                };
+                grind (arith, append_assoc, q, e, q.0, same);
           }
 
 module _ {F T A : Type 0} {Calls : F → T → Bool → F → T → Type 0} {Takes : F → T → Type 0} where
@@ -72,17 +67,10 @@ module _ {F T A : Type 0} {Calls : F → T → Bool → F → T → Type 0} {Tak
   asked-turn {f = f} {h = h} {g = g} {old = old} {v = v} {w = w} s many asked = turned (Told Calls) (May Calls Takes) f [] old.items old s many (λ has_tail. turn-asked Calls Takes h v _ _ has_tail _ g w asked)
 
   pub retained-start : {f : F} {old v : Vector T A} {end : ℕ} → SetsTail old 0 v → 0 + end ≡ len old → IsCallableInOrder Calls Takes f old.items → Stage (Told Calls) (May Calls Takes) f [] old.items old f v 0 end × (0 ≡ len v)
-  retained-start {f = f} {old = old} {end = end} set all may =
-      let all : end ≡ len old = omega (arith, all) in (stage-start (Told Calls) (May Calls Takes) set (omega arith) all may.along, start-len (Told Calls) (May Calls Takes) set (omega arith) all)
+  retained-start {f = f} {old = old} {end = end} set all may = grind (arith, stage-start, start-len)
 
   -- the closure was called for all
   pub Retains-ended : {f g : F} {old w : Vector T A} {at end : ℕ} → Stage (Told Calls) (May Calls Takes) f [] old.items old g w at end → at ≡ end → Retains Calls f old g w
   Retains-ended {f = f} {g = g} {old = old} {w = w} {at = at} {end = end} s e =
       let q = stage-ended (Told Calls) (May Calls Takes) f [] old.items old g w at end s e (λ yet none m. rw none (record { calls = []; called = refl; results = refl; all = sym (append-nil w.items) })) in let r = q.1 in
-      record {
-        calls = r.calls;
-        called = r.called;
-        runs = q.2;
-        few = omega (arith, q.3, ap removed_count r.results, removed-calls (λ t. t.result) r.calls);
-        becomes = subst (λ s. Becomes old (kept r.calls) (kept_after_removed s) q.2 w) (sym r.results) (subst (λ l. Becomes old l (kept_after_removed q.0) q.2 w) r.all q.4);
-      }
+      grind (arith, removed-calls, r.calls, r.called, q.2)

@@ -1,5 +1,5 @@
 -- Capacity that the block reserved for a vector.
-use Rattle.aa_vec.proofs.Common.{◌≡◌, ℕ, ◌+◌, ◌-◌, ◌<◌, ◌≤◌, [], ◌∷◌, ◌++◌, Some, length, refl, ap, ◌∙◌, arith, if◌then◌else◌, ◌==◌, slice_set, Block, with_written, IsRun, run, moved, amortized, min_capacity, length-run, Vector, len, run_count, with_room, view_of, IsFront, Inside, insert, nat_tests, Reserves, run-put, run-reserved, IsRun-reserved, Becomes, length-set}
+use Rattle.aa_vec.proofs.Common.{◌≡◌, ℕ, ◌+◌, ◌-◌, ◌≤◌, [], ◌∷◌, ◌++◌, Some, length, refl, ap, ◌∙◌, arith, if◌then◌else◌, ◌==◌, slice_set, Block, with_written, IsRun, run, moved, amortized, min_capacity, length-run, Vector, len, run_count, with_room, view_of, IsFront, Inside, insert, nat_tests, Reserves, run-put, run-reserved, IsRun-reserved, Becomes, length-set, vector_in}
 use Rattle.aa_raw.proofs.Positions.{run-inserted, length-inserted}
 use Rattle.aa_vec.proofs.Becoming.{Becomes-grows}
 use Rattle.aa_vec.proofs.GrowthLemmas.{MakesRoom}
@@ -13,7 +13,7 @@ module _ {T A : Type 0} (size : ℕ) (old : Inside T A) (front : IsFront old) (k
 -- capacity for one more, and one more element in it
 pub Becomes-put : {T A : Type 0} (size : ℕ) (old : Inside T A) (front : IsFront old) (b : Block T A) (x : T)
     → Reserves size old.block old.len 1 (amortized old.block.growth (length old.block.places) (old.len + 1) (min_capacity size)) b
-    → Becomes (with_room size (view_of old) (len (view_of old)) 1) (run old.block.places 0 old.len ++ x ∷ []) 1 1 (view_of (record { block = with_written b (slice_set b.places old.len (Some x)) 1; len = old.len + 1 }))
+    → Becomes (with_room size (view_of old) (len (view_of old)) 1) (run old.block.places 0 old.len ++ x ∷ []) 1 1 (vector_in (with_written b (slice_set b.places old.len (Some x)) 1) (old.len + 1))
 Becomes-put {T} {A} size old front b x made =
     let items = run-put b.places old.len x (omega (arith, made.room)) ∙ ap (λ xs. xs ++ x ∷ []) (run-reserved size old.block old.len 1 _ b made) in
     let room = MakesRoom-block size old front 1 b made _ (length-set b.places old.len (Some x)) refl refl refl in
@@ -23,16 +23,11 @@ Becomes-put {T} {A} size old front b x made =
 pub Becomes-inserted : {T A : Type 0} (size : ℕ) (old : Inside T A) (front : IsFront old) (b : Block T A) (i : ℕ) (x : T) → i ≤ len (view_of old)
     → Reserves size old.block old.len 1 (amortized old.block.growth (length old.block.places) (old.len + 1) (min_capacity size)) b
     → Becomes (with_room size (view_of old) (len (view_of old)) 1) (insert (run old.block.places 0 old.len) i x) (len (view_of old) - i + 1) (run_count (len (view_of old) - i) + 1)
-    (view_of (record { block = with_written (with_written b (moved b.places i (i + 1) (old.len - i)) (if i == i + 1 then 0 else old.len - i)) (slice_set (moved b.places i (i + 1) (old.len - i)) i (Some x)) 1; len = old.len + 1 }))
+    (vector_in (with_written (with_written b (moved b.places i (i + 1) (old.len - i)) (if i == i + 1 then 0 else old.len - i)) (slice_set (moved b.places i (i + 1) (old.len - i)) i (Some x)) 1) (old.len + 1))
 Becomes-inserted size old front b i x asked made =
     let kept : IsRun b.places 0 old.len = IsRun-reserved size old.block old.len 1 _ b made front in
-    let room : old.len < length b.places = omega (arith, made.room) in
-    let count : len (view_of old) ≡ old.len = length-run old.block.places 0 old.len front in
-    let within : i ≤ old.len = omega (arith, asked, count) in
-    let moves : (if i == i + 1 then 0 else old.len - i) ≡ len (view_of old) - i = grind (arith, nat_tests, count) in
-    let items = run-inserted b.places old.len kept i x within room ∙ ap (λ ys. insert ys i x) (run-reserved size old.block old.len 1 _ b made) in
-    let more = MakesRoom-block size old front 1 b made _ (length-inserted b.places old.len kept i x within room) refl refl refl in
-    Becomes-grows _ _ _ _ _ size 1 (record { items = items; room = more }) (omega (arith, moves, made.written, made.runs, ap run_count moves))
+    let within : i ≤ old.len = omega (arith, asked, length-run old.block.places 0 old.len front) in
+    grind (arith, nat_tests, length-run old.block.places 0 old.len front, run-inserted b.places old.len kept i x within (omega (arith, made.room)), run-reserved size old.block old.len 1 _ b made, length-inserted b.places old.len kept i x within (omega (arith, made.room)), MakesRoom-block size old front 1 b made, Becomes-grows)
 
 -- an element in capacity that was reserved for it
 pub ruleset placed_in_room = (Becomes-put, Becomes-inserted)

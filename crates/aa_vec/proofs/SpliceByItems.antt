@@ -27,10 +27,7 @@ Extends-same {size = size} {lower} b {head} {taken} (Err e) {new} = Extends-yiel
 module _ {T A : Type 0} (size : ℕ) (lower by : ℕ → ℕ) {u v : Vector T A} (b : SameBlock u v) (head : List T) (gap : ℕ) (tail taken more : List T)
     (same : (k : ℕ) → k ≤ length taken → lower k ≡ by (k + length more)) (new : Vector T A) where
   SplicesAll-yields : more ≡ [] → SplicesAll size lower (gapped v head gap tail) taken new → SplicesAll size by (gapped u head gap tail) taken new
-  SplicesAll-yields none s =
-      let yields : lower (length taken - gap) ≡ by (length taken - gap) = same (length taken - gap) (omega arith) ∙ ap by (omega (arith, ap length none)) in
-      let ends : Extends size lower v head taken (Ok tt) new → Extends size by u head taken (Ok tt) new = Extends-yields size lower by b head taken more (λ k h. same k (omega (arith, h))) taken (sym (ap (λ ys. taken ++ ys) none ∙ append-nil taken)) (Ok tt) none new in
-      grind (arith, yields, ends, SameBlock-trans, MakesRoomTwice-same)
+  SplicesAll-yields none s = grind (arith, Extends-yields, append-nil, SameBlock-trans, MakesRoomTwice-same)
 
   -- of what was taken a beginning was placed
   module _ (all : List T) (e : all ≡ taken ++ more) (error : TryReserveError) {fails fails' whole whole' : Type 0} (f : fails → fails') (w : whole → whole') (none : whole → more ≡ []) where

@@ -1,5 +1,5 @@
 -- A range that was replaced by items: the lower bounds of an iterator, and what the phases left.
-use Rattle.aa_vec.proofs.Common.{◌≡◌, ℕ, ◌+◌, ◌-◌, ◌*◌, ◌<◌, ◌≤◌, List, [], ◌++◌, length, Option, append_assoc, refl, sym, ap, ◌∙◌, subst, arith, inl, inr, length-append, Result, Ok, Err, Count, Yields, count_of, append-nil, TryReserveError, Vector, len, HasRoom, SameBlock, tail_moves, run_count, moved_over, tail_items, with_spare, ExtendResult, OnOk, IfErr, SplicesAll, FillsAndCloses, PutsAll, Puts, PutsWithin, Replaced, PutsFront, IsFinite, nat_tests, Becomes}
+use Rattle.aa_vec.proofs.Common.{◌≡◌, ℕ, ◌+◌, ◌-◌, ◌*◌, ◌<◌, ◌≤◌, List, [], ◌++◌, length, Option, append_assoc, refl, sym, ap, ◌∙◌, subst, arith, inl, inr, length-append, Result, Ok, Err, Count, Yields, count_of, append-nil, TryReserveError, Vector, len, HasRoom, SameBlock, tail_moves, run_count, moved_over, tail_items, with_spare, ExtendResult, OnOk, IfErr, SplicesAll, FillsAndCloses, PutsAll, Puts, PutsWithin, Replaced, PutsFront, IsFinite, nat_tests, Becomes, rules}
 use Rattle.std.specs.declared.iter.Iterator.{Ghosts}
 use Rattle.aa_vec.proofs.Outcomes.{IsOk, on_ok, if_err, done_unless}
 use Rattle.aa_vec.proofs.Closed.{moved_none, moved_some, moved_most, one_run}
@@ -29,17 +29,8 @@ module _ {S T A : Type 0} (g : Ghosts S T) (LowerIs : S → ℕ → Type 0) (tel
         → ((h : ℕ) → ((xs : List T) (t : S) (n : ℕ) → Yields steps iter xs t → length xs ≡ gap → LowerIs t n → n ≡ h) → count_of (left_of iter) ≤ gap + h → len old + gap + length tail + h ≤ old.capacity → IsOk r)
         → PutsWithin old (len old + length tail) (length tail) new → Spliced
     spliced room failed fits_gap fits_full fits_end fits_lower writes =
-        let ran = on_ok r room (λ a. (a.taken, (a.outcome.0.0, (a.last, Yields-with_lower steps LowerIs a.lower iter a.taken a.last a.yields, a.outcome.0.1)), a.outcome.1.items)) in record {
-          items = ran;
-          runs = on_ok r ran (whole_run steps iter (λ xs. new.items ≡ old.items ++ (xs ++ tail)));
-          fits_gap = fits_gap;
-          fits_full = fits_full;
-          fits_end = fits_end;
-          fits_lower = fits_lower;
-          spliced = room;
-          writes = writes;
-          error = failed;
-        }
+        let ran = on_ok r room (λ a. (a.taken, (a.outcome.0.0, (a.last, Yields-with_lower steps LowerIs a.lower iter a.taken a.last a.yields, a.outcome.0.1)), a.outcome.1.items)) in
+        search (rules, ran, on_ok r ran (whole_run steps iter (λ xs. new.items ≡ old.items ++ (xs ++ tail))))
 
   -- the elements of the range were dropped
   module _ (places : List (Option T)) where
@@ -108,13 +99,11 @@ module _ {S T A : Type 0} (g : Ghosts S T) (LowerIs : S → ℕ → Type 0) (tel
             let e = tells_each steps LowerIs tell t p.added p.last p.yields in
             let r = tell_between steps LowerIs tell iter came t yields bound tells e.0 p.added p.last e.1 in
             let longer : length all ≡ gap + length p.added = omega (arith, length-append came p.added, gap_came) in
-            let over_is : length all - gap ≡ length p.added = omega (arith, longer) in
-            let bound_is : r.0 (length all - gap) ≡ bound = ap r.0 over_is ∙ r.2 in
+            let bound_is : r.0 (length all - gap) ≡ bound = ap r.0 (omega (arith, longer)) ∙ r.2 in
             let m : MakesRoomTwice size old (len x) bound (length p.added - bound) new = MakesRoomTwice-same size (len x) bound (length p.added - bound) x_block p.room in
             let items : new.items ≡ old.items ++ (all ++ tail) = p.items ∙ put_between old.items came tail p.added x.items n x_items tail_count in
-            let whole_put : SplicesAll size r.0 (cut_off old gap tail) all new = grind (arith, items, m, bound_is, over_is, whole, tail_count, some, longer) in
-            let written : new.written ≡ old.written + (length all + tail_moves gap (r.0 (length all - gap)) (length all) * length tail) =
-            rw (bound_is, tail_count, moves_beyond gap bound (length all) (length p.added) longer) (omega (arith, p.written, ap (λ u. u.written) x_becomes, moved_none left n full, longer, gap_came)) in
+            let whole_put : SplicesAll size r.0 (cut_off old gap tail) all new = grind (arith, items, m, bound_is, whole, tail_count, some, longer) in
+            let written : new.written ≡ old.written + (length all + tail_moves gap (r.0 (length all - gap)) (length all) * length tail) = grind (arith, nat_tests, p.written, x_becomes, moved_none, longer, gap_came, bound_is, tail_count, moves_beyond) in
             record { taken = all; lower = r.0; last = p.last; yields = r.3; outcome = ((after, p.ends), whole_put, written) }
 
         more_refused : (error : TryReserveError) (new : Vector T A) (after : S) → PutsFront steps LowerIs (P x.alloc) size t x bound n error new after → SplicesByFront steps LowerIs size iter (cut_off old gap tail) (P old.alloc) error new
@@ -154,10 +143,7 @@ module _ {S T A : Type 0} (g : Ghosts S T) (LowerIs : S → ℕ → Type 0) (tel
             let z = p.writes in
             spliced tail r new (on_ok r p.all (more_spliced new after)) (if_err r p.error (λ e front. more_refused e new after front))
             (λ few. absurd (omega (arith, few, goes)))
-            (λ tells_none few.
-            let none : count_of (left_of t) ≡ 0 = omega (arith, few, goes) in
-            let is : bound ≡ 0 = tells_none t bound ends none tells in
-            done_unless r (if_err r p.few (λ e less. absurd (omega (arith, less (omega (arith, is)), none)))))
+            (λ tells_none few. grind (arith, p.few, tells_none t bound ends (omega (arith, few, goes)) tells, IsOk))
             (λ e _. absurd (omega (arith, ap length e, tail_count, some)))
             (λ h once few room.
             let is : bound ≡ h = once came t bound yields gap_came tells in

@@ -1,7 +1,7 @@
 -- Turns of a loop in which a closure is called for elements after a gap, and the kept ones are moved down. `Ends` says of all untested
 -- elements, where these items are kept so far: the results, which are true where an element is kept, and then the closure's state and all
 -- the items. `May` is that the closure may be called for them.
-use Rattle.aa_vec.proofs.Common.{None, drop-set-lt, ◌≡◌, ℕ, ◌+◌, ◌-◌, ◌<◌, ◌≤◌, Bool, List, [], ◌∷◌, ◌++◌, length, length-drop, take, drop, sym, ap, ◌∙◌, subst, arith, inl, inr, min, drop_all, length-take-le, run-zero, HasTail, SetsTail, ClosesGap, tail_items, with_spare, kept_after_removed, TakesNext, refl, Vector, len, Becomes, SameBlock, Writes, moved_over, below_or_not}
+use Rattle.aa_vec.proofs.Common.{None, drop-set-lt, ◌≡◌, ℕ, ◌+◌, ◌-◌, ◌<◌, ◌≤◌, Bool, List, [], ◌∷◌, ◌++◌, length, length-drop, take, drop, sym, ap, ◌∙◌, subst, arith, inl, inr, min, drop_all, length-take-le, run-zero, HasTail, SetsTail, ClosesGap, tail_items, with_spare, kept_after_removed, TakesNext, Vector, len, Becomes, SameBlock, below_or_not}
 use Rattle.aa_vec.proofs.Becoming.{Becomes-holds, SameBlock-becomes}
 use Rattle.aa_vec.proofs.GrowthLemmas.{SameBlock-trans}
 use Rattle.aa_vec.proofs.Closed.{still, still-none, few_runs, no_run, removed_count, marks, marks-are, marks-written}
@@ -49,18 +49,7 @@ module _ {F T A : Type 0} (Ends : F → (items yet : List T) → List Bool → F
 
     module _ (h : F) (v : Vector T A) (gap n : ℕ) (now : On h v gap n) (k : ℕ) (g : F) (w : Vector T A) (left : List T) (t : Turn h v gap n k g w left) where
       more : (u z : Vector T A) (i m : ℕ) → ClosesGap w gap k u → z ≡ with_spare u z.spare → HasTail z i m → tail_items z i m ≡ drop 1 (drop k left) → i ≡ gap + min (n - k) 1 → m ≡ n - (k + 1) → On g z i m
-      more u z i m closes same has_tail are e l =
-          let items : z.items ≡ w.items ++ take k left = ap (λ s. s.items) same ∙ moved_items w gap n t.has_tail k t.within u closes ∙ ap (λ xs. w.items ++ take k xs) t.are in
-          let with_written : z.written ≡ v.written + moved_over gap k = omega (arith, ap (λ s. s.written) same, ap (λ s. s.written) closes.becomes, ap (λ s. s.written) t.becomes.1) in
-          record {
-            has_tail = has_tail;
-            may = rw (items, are) (t.may now.may);
-            ends = λ results x ys a.
-                let q = now.ends (marks k n results) x ys (t.ends results x ys (subst (λ xs. Ends g (w.items ++ take k left) xs results x ys) are (subst (λ xs. Ends g xs (tail_items z i m) results x ys) items a))) in
-                (q.0, q.1, omega (arith, q.2, with_written, marks-written gap k n t.within results, ap (λ j. still j results) e), omega (arith, q.3, (marks-are k n t.within results).1, e));
-            block = SameBlock-trans (SameBlock-trans now.block (SameBlock-becomes _ _ _ _ _ t.becomes.1)) (SameBlock-becomes _ _ _ _ _ (same ∙ ap (λ s. with_spare s z.spare) closes.becomes));
-            runs = omega (arith, ap (λ s. s.runs) same, ap (λ s. s.runs) closes.becomes, ap (λ s. s.runs) t.becomes.1, now.runs, few_runs gap k, no_run gap k, e, l, t.within);
-          }
+      more u z i m closes same has_tail are e l = grind (arith, moved_items, marks-written, marks-are, SameBlock-trans, SameBlock-becomes, few_runs, no_run)
 
     -- a turn from there on, where n items are kept so far
     module _ {h : F} {v : Vector T A} {at end : ℕ} (s : Stage h v at end) {n : ℕ} (many : n ≡ len v) where
@@ -112,8 +101,7 @@ module _ {F T A : Type 0} (Ends : F → (items yet : List T) → List Bool → F
     stage-ended g z at end s e nil =
         let none : tail_items z (at - len z) (end - at) ≡ [] = ap (tail_items z (at - len z)) {x = end - at} {y = 0} (omega (arith, e)) ∙ run-zero (drop (at - len z) z.spare) 0 in
         let q = s.on.ends [] g z.items (nil _ none s.on.may) in
-        let writes : Writes old (kept_after_removed q.0) (z.runs - old.runs) z = record { written = omega (arith, q.2, still-none (at - len z)); runs = omega (arith, s.on.runs) } in
-        (q.0, q.1, z.runs - old.runs, omega (arith, q.3, s.on.runs), Becomes-holds old z.items (kept_after_removed q.0) (z.runs - old.runs) z (record { items = refl; block = s.on.block }) writes)
+        (q.0, q.1, z.runs - old.runs, omega (arith, q.3, s.on.runs), grind (arith, still-none, Becomes-holds, q, s.on))
 
 module _ {F T A : Type 0} (Ends : F → (items yet : List T) → List Bool → F → List T → Type 0) (May : F → (items yet : List T) → Type 0) {old v : Vector T A} {at end : ℕ} (set : SetsTail old at v) (within : at ≤ end) (all : end ≡ len old) where
   pub start-len : at ≡ len v
@@ -121,18 +109,4 @@ module _ {F T A : Type 0} (Ends : F → (items yet : List T) → List Bool → F
 
   -- it was called for none yet
   pub stage-start : {f : F} → May f (take at old.items) (drop at old.items) → Stage Ends May f (take at old.items) (drop at old.items) old f v at end
-  stage-start {f} may =
-      let left : end - at ≡ len old - at = ap (λ n. n - at) all in
-      let none : 0 ≡ at - len v = omega (arith, start-len) in
-      let are : tail_items v 0 (end - at) ≡ drop at old.items = ap (tail_items v 0) left ∙ set.elements in
-      record {
-        here = omega (arith, start-len);
-        within = within;
-        on = subst (λ i. On Ends May f (take at old.items) (drop at old.items) old f v i (end - at)) none (record {
-          has_tail = subst (HasTail v 0) (sym left) set.has_tail;
-          may = rw (ap (λ s. s.items) set.becomes, are) may;
-          ends = λ results g ys a. (results, subst (λ xs. Ends f (take at old.items) xs results g ys) are (subst (λ xs. Ends f xs (tail_items v 0 (end - at)) results g ys) (ap (λ s. s.items) set.becomes) a), omega (arith, ap (λ s. s.written) set.becomes), omega arith);
-          block = SameBlock-becomes _ _ _ _ _ set.becomes;
-          runs = omega (arith, ap (λ s. s.runs) set.becomes);
-        });
-      }
+  stage-start {f} may = grind (arith, start-len, SameBlock-becomes)

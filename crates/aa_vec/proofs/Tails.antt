@@ -3,6 +3,7 @@ use Rattle.aa_vec.proofs.Common.{◌≡◌, ℕ, ◌+◌, ◌-◌, ◌<◌, ◌�
 use Rattle.aa_vec.proofs.Becoming.{Becomes-refl}
 use Rattle.aa_vec.proofs.Closed.{moved_some}
 use Rattle.aa_vec.proofs.TailLemmas.{still_tail, still_are, part_tail, later_part}
+use Rattle.aa_vec.proofs.Tidy.{count-by_one}
 
 module _ {T A : Type 0} (v : Vector T A) (gap n : ℕ) (has_tail : HasTail v gap n) where
   abbrev pub elements : List T
@@ -55,11 +56,12 @@ module _ {T A : Type 0} where
   pub closes_none : (v : Vector T A) (gap : ℕ) → ClosesGap v gap 0 v
   closes_none v gap =
       let none : moved_over gap 0 ≡ 0 = grind arith in
-      record { becomes = rw (none, run-zero (drop gap v.spare) 0, append-nil v.items) (Becomes-refl v); spare = refl }
+      record { becomes = rw (none, run-zero (drop gap v.spare) 0, append-nil v.items) (Becomes-refl v); spare = refl; few = omega arith }
 
-  pub closes_by_one : (old mid new : Vector T A) (gap : ℕ) (x : T) → 0 < gap → tail_items old gap 1 ≡ x ∷ [] → mid ≡ with_spare old (slice_set old.spare gap None) → Becomes mid (mid.items ++ x ∷ []) 1 1 new
+  pub closes_by_one : (old mid new : Vector T A) (gap : ℕ) (x : T) → 0 < gap → HasTail old gap 1 → tail_items old gap 1 ≡ x ∷ [] → mid ≡ with_spare old (slice_set old.spare gap None) → Becomes mid (mid.items ++ x ∷ []) 1 1 new
       → new.spare ≡ drop 1 mid.spare → ClosesGap old gap 1 new
-  closes_by_one old mid new gap x some e taken put spare = record {
+  closes_by_one old mid new gap x some has_tail e taken put spare = record {
+    few = count-by_one old.spare gap has_tail.1 mid.spare (ap (λ v. v.spare) taken) new.spare spare;
     becomes = rw (moved_some gap 1 some, e) (rw taken at put);
     spare = ap (drop gap) spare ∙ drop-drop gap 1 mid.spare ∙ ap (λ i. drop i mid.spare) (omega arith) ∙ ap (λ v. drop (gap + 1) v.spare) taken ∙ drop-set-lt (gap + 1) old.spare gap None (omega arith) ∙ sym (drop-drop 1 gap old.spare);
   }

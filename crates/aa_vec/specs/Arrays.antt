@@ -7,7 +7,7 @@ use Rattle.aa_raw.specs.declared.collections.TryReserveError.{TryReserveError}
 use Rattle.aa_raw.specs.declared.collections.TryReserveErrorKind.TheVariants.{CapacityOverflow}
 use Rattle.aa_raw.specs.declared.raw_vec.Growth.TheVariants.{Doubling}
 use Rattle.aa_boxed.specs.Boxed.{Boxed}
-use Rattle.aa_vec.specs.Vector.{Vector, len, new_capacity}
+use Rattle.aa_vec.specs.Vector.{Vector, len, new_capacity, of_new}
 
 -- the lists of `xss`, concatenated in order
 abbrev pub flattened : {T : Type 0} → List (List T) → List T
@@ -23,11 +23,12 @@ module _ {T A : Type 0} where
     pub cause : len v * n ≤ usize_max → sure → AllocationFails (v.capacity * n) size error
     pub number : IsErrorFor error (new_capacity size (v.capacity * n))
 
-  -- `v` has the elements, of `size` bytes each, of the array in `b`, no spare capacity, and a clone
-  -- of the allocator
+  -- `v` has the elements, of `size` bytes each, of the array in `b`, a new block without spare
+  -- capacity, and a clone of the allocator
   pub record IsUnboxedArray (clones : A → A → Type 0) (size : ℕ) (b : Boxed (List T) A)
       (v : Vector T A) : Type 0 where
     pub items : v.items ≡ b.value
     pub capacity : v.capacity ≡ new_capacity size (length b.value)
     pub growth : v.growth ≡ Doubling
+    pub grown : v.grown ≡ of_new size (length b.value)
     pub alloc : clones b.alloc v.alloc

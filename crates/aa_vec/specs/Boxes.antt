@@ -22,7 +22,7 @@ module _ {T A : Type 0} where
 
   -- the boxed slice with the items of `v`
   abbrev pub boxed : Vector T A → Slice T A
-  boxed v = record { items = v.items; growth = v.growth; alloc = v.alloc }
+  boxed v = record { items = v.items; growth = v.growth; grown = v.grown; alloc = v.alloc }
 
   -- the vector `v`, of elements of `size` bytes, is returned in the error `r`, since a block of its
   -- length could not be allocated
@@ -36,4 +36,5 @@ module _ {T A : Type 0} where
     pub items : v.items ≡ s.items
     pub capacity : v.capacity ≡ new_capacity size (length s.items)
     pub growth : v.growth ≡ s.growth
+    pub grown : v.grown ≡ s.grown
     pub alloc : v.alloc ≡ s.alloc

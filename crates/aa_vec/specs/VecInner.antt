@@ -1,5 +1,7 @@
 -- The invariant of the fields of a `Vec`, and its view.
+use Rattle.std.specs.Prelude.{◌+◌, ◌≤◌}
 use Rattle.aa_raw.specs.Places.{IsRun}
+use Rattle.aa_vec.specs.Tail.{count_from}
 use Rattle.aa_vec.specs.Vector.{Vector, vector_in}
 use Rattle.aa_vec.specs.declared.vec.Vec.TheInside.{Inside}
 
@@ -11,3 +13,8 @@ module _ {T A : Type 0} where
   -- the first places are filled, as many as the length of `v`
   abbrev pub IsFront : Inside T A → Type 0
   IsFront v = IsRun v.block.places 0 v.len
+
+  -- and the places after them hold no more values than `v` has set apart and not settled
+  pub record IsWhole (v : Inside T A) : Type 0 where
+    pub filled : IsFront v
+    pub few : count_from v.block.places v.len + v.settled.count ≤ v.apart.count

@@ -7,10 +7,11 @@ ghost use Rattle.aa_raw.specs.Places.{IsCapacity};
 ghost use Rattle.aa_raw.specs.Errors.{AllocationFails};
 ghost use Rattle.aa_vec.specs.Copies.{IsMade};
 ghost use Rattle.aa_vec.specs.Vector.{Vector, len, HasRoom, LacksRoom, IsNew, Becomes, with_room};
-ghost use Rattle.aa_vec.specs.VecInner.{view_of, IsFront};
+ghost use Rattle.aa_vec.specs.VecInner.{view_of, IsWhole};
 
 pub use aa_boxed::slices::same;
 use aa_raw::collections::{Refused, TryReserveError};
+use aa_raw::counter::Counter;
 use aa_raw::raw_vec::{Growth, RawVec};
 pub use aa_raw::vec::into_iter;
 pub use aa_raw::vec::into_iter::IntoIter;
@@ -25,6 +26,7 @@ use std::alloc::{Allocator, Global};
 use std::default::Default;
 use std::marker::Model;
 pub use std_alloc::part::SliceRange;
+use tail::forget_apart;
 
 mod append;
 mod bytes;
@@ -54,6 +56,10 @@ mod traits;
 pub struct Vec<T, A: Allocator = Global> {
     block: RawVec<T, A>,
     len: usize,
+    // Ghost counters: how many elements were set apart, in places after the list, and how many of
+    // them were taken out, dropped or moved back since then.
+    apart: Counter,
+    settled: Counter,
 }
 
 impl<T, A: Allocator> Model for Vec<T, A> {
@@ -61,7 +67,7 @@ impl<T, A: Allocator> Model for Vec<T, A> {
 
     ghost view = { view_of };
 
-    ghost invariant = { IsFront };
+    ghost invariant = { IsWhole };
 }
 
 impl<T> Vec<T, Global> {
@@ -108,7 +114,7 @@ impl<T, A: Allocator> Vec<T, A> {
     /// capacity. Does not allocate.
     ///
     /// Not in allocator-api2.
-    #[tactic(auto, using(aa_raw::proofs::Calls::with_room))]
+    #[tactic(auto, using(aa_raw::proofs::Calls::with_room, crate::proofs::Tidy::few_at_end))]
     pub fn with_growth_in(growth: Growth, alloc: A) -> Self
         ensures made { IsMade (type_size T.row) 0 growth [] 0 result }
         ensures alloc { result.alloc ≡ alloc }
@@ -116,6 +122,8 @@ impl<T, A: Allocator> Vec<T, A> {
         Vec {
             block: RawVec::with_growth_in(growth, alloc),
             len: 0,
+            apart: Counter::zero(),
+            settled: Counter::zero(),
         }
     }
 
@@ -125,13 +133,19 @@ impl<T, A: Allocator> Vec<T, A> {
     ///
     /// # Errors
     /// Returns `CapacityOverflow`, or `AllocError` with the number `capacity`.
-    #[tactic(auto, using(aa_raw::proofs::Calls::with_room))]
+    #[tactic(auto, using(aa_raw::proofs::Calls::with_room, crate::proofs::Tidy::few_at_end))]
     pub fn with_capacity_in(capacity: usize, alloc: A) -> Result<Self, TryReserveError>
         ensures made { IfOk result (λ v. IsNew (type_size T.row) capacity alloc v) }
         ensures error { IfErr result (AllocationFails capacity (type_size T.row)) }
     {
         let block = RawVec::with_capacity_in(capacity, alloc)?;
-        Ok(Vec { block, len: 0 })
+        let len = 0;
+        Ok(Vec {
+            block,
+            len,
+            apart: Counter::zero(),
+            settled: Counter::zero(),
+        })
     }
 
     /// Returns the number of elements.
@@ -204,7 +218,7 @@ impl<T, A: Allocator> Vec<T, A> {
     }
 
     /// Returns a mutable slice of all elements.
-    #[tactic(auto, using(aa_raw::proofs::Calls::shown))]
+    #[tactic(auto, using(aa_raw::proofs::Calls::shown, crate::proofs::Tidy::few_at_end))]
     pub fn as_mut_slice(&mut self) -> &mut [T]
         ensures* writes_back { sem 𝓛 (lends_items T.row A.row A.Allocator self.entry result) }
         ensures value { result.now ≡ self.old.items }
@@ -247,7 +261,7 @@ impl<T, A: Allocator> Vec<T, A> {
     ///
     /// Does not allocate, and does not change the capacity.
     #[inline]
-    #[tactic(auto, using(aa_raw::proofs::Calls::at_ends, crate::proofs::Becoming::becomes))]
+    #[tactic(auto, using(aa_raw::proofs::Calls::at_ends, crate::proofs::Becoming::becomes, crate::proofs::Tidy::few_at_end))]
     pub fn pop(&mut self) -> Option<T>
         ensures cases { MatchOption result (self.old.items ≡ [])
             (λ y. self.old.items ≡ self.new.items ++ y ∷ []) }
@@ -277,8 +291,15 @@ impl<T, A: Allocator + Default> Default for Vec<T, A> {
 
 impl<T: Drop, A: Allocator> Drop for Vec<T, A> {
     /// Drops the elements in order, and deallocates the block.
+    #[tactic(auto, using(aa_raw::proofs::Beyond::emptied, crate::proofs::Tidy::few_at_end))]
     fn drop(self) {
-        let Vec { mut block, len } = self;
+        let Vec {
+            mut block,
+            len,
+            apart,
+            settled,
+        } = self;
         block.drop_run(0, len);
+        forget_apart(&mut block, len, &apart, &settled);
     }
 }

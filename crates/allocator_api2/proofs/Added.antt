@@ -1,6 +1,5 @@
 -- What a list of commands added, where each adds at most one element.
-use Rattle.allocator_api2.proofs.Common.{◌≡◌, ℕ, ◌+◌, ◌*◌, ◌≤◌, List, [], ◌∷◌, length, map, sum_by, sym, ap, subst, arith, AllByRecursion, sum_by-cons, Growth, Vector, Command, Push, Within, Insert, Append, Extend, Reply, Done, State, Calls, Turn, AddsOrRemoves, added, added_by, moves_each, RunsWithin, length-map}
-use Rattle.std.specs.Prelude.{◌-◌}
+use Rattle.allocator_api2.proofs.Common.{◌≡◌, ℕ, ◌+◌, ◌-◌, ◌*◌, ◌≤◌, List, [], ◌∷◌, length, map, sum_by, sym, ap, subst, arith, rules, AllByRecursion, sum_by-cons, Growth, Vector, Command, Append, Reply, State, Calls, Turn, AddsOrRemoves, added, added_by, moves_each, RunsWithin, length-map}
 use Rattle.aa_raw.specs.Growths.{FewBlocks}
 use Rattle.aa_raw.proofs.Costs.{FewBlocks-more}
 use Rattle.allocator_api2.specs.Run.{AddsOneAtMost}
@@ -11,20 +10,15 @@ moves_each-le G grown paid n k le h = grind arith
 module _ {T A : Type 0} where
   adds_or_removes : (command : Command T A) → AddsOneAtMost command → AddsOrRemoves command
   adds_or_removes Append a = absurd a
-  adds_or_removes (Extend items hint) a = absurd a
-  adds_or_removes command a = a
+  adds_or_removes command a = search rules
 
   pub all_add_or_remove : (commands : List (Command T A)) → AllByRecursion AddsOneAtMost commands → AllByRecursion AddsOrRemoves commands
   all_add_or_remove [] a = tt
   all_add_or_remove (command ∷ commands) a = (adds_or_removes command a.0, all_add_or_remove commands a.1)
 
   one_at_most : (main side : Vector T A) (command : Command T A) (reply : Reply T) (main' : Vector T A) → AddsOneAtMost command → added_by main side command reply main' ≤ 1
-  one_at_most main side (Push x) Done main' a = omega arith
-  one_at_most main side (Within x) Done main' a = omega arith
-  one_at_most main side (Insert i x) Done main' a = omega arith
   one_at_most main side Append reply main' a = absurd a
-  one_at_most main side (Extend items hint) reply main' a = absurd a
-  one_at_most main side command reply main' a = omega arith
+  one_at_most main side command reply main' a = grind (arith, a)
 
 module _ {T A K S : Type 0} where
   -- no more was added than there were commands
@@ -35,23 +29,18 @@ module _ {T A K S : Type 0} where
       let rest = added-le ts a.1 in
       omega (arith, sum_by-cons added t ts)
 
-  -- so from an empty vector growth moved at most twice as many elements as there were commands, or three times as many if sparing
-  pub grown-le : {size : ℕ} {calls : Calls T A K S} {old new : State T A K S} {commands : List (Command T A)} {replies : List (Reply T)}
-      → RunsWithin size calls old commands replies new → old.main.items ≡ [] → AllByRecursion AddsOneAtMost commands
-      → new.main.grown.moved ≤ old.main.grown.moved + moves_each old.main.growth * length commands
-  grown-le {old = old} {new} {commands} r empty a =
-      let few = added-le r.run.turns (subst (AllByRecursion AddsOneAtMost) (sym r.run.commands_are) a) in
-      let count = simp length-map at (ap length r.run.commands_are) in
-      moves_each-le old.main.growth new.main.grown.moved old.main.grown.moved (sum_by added r.run.turns) (length commands) (omega (arith, few, count)) (r.growth empty (all_add_or_remove commands a))
+  module _ {size : ℕ} {calls : Calls T A K S} {old new : State T A K S} {commands : List (Command T A)} {replies : List (Reply T)} (r : RunsWithin size calls old commands replies new)
+      (empty : old.main.items ≡ []) (a : AllByRecursion AddsOneAtMost commands) where
+    few : sum_by added r.run.turns ≤ length commands
+    few = omega (arith, added-le r.run.turns (subst (AllByRecursion AddsOneAtMost) (sym r.run.commands_are) a), simp length-map at (ap length r.run.commands_are))
 
-  -- and it allocated few blocks for so many
-  pub blocks-le : {size : ℕ} {calls : Calls T A K S} {old new : State T A K S} {commands : List (Command T A)} {replies : List (Reply T)}
-      → RunsWithin size calls old commands replies new → old.main.items ≡ [] → AllByRecursion AddsOneAtMost commands
-      → FewBlocks old.main.growth (new.main.grown.blocks - old.main.grown.blocks) (length commands)
-  blocks-le {old = old} {commands = commands} r empty a =
-      let few = added-le r.run.turns (subst (AllByRecursion AddsOneAtMost) (sym r.run.commands_are) a) in
-      let count = simp length-map at (ap length r.run.commands_are) in
-      FewBlocks-more old.main.growth _ (sum_by added r.run.turns) (length commands) (omega (arith, few, count)) (r.blocks empty (all_add_or_remove commands a))
+    -- so from an empty vector growth moved at most twice as many elements as there were commands, or three times as many if sparing
+    pub grown-le : new.main.grown.moved ≤ old.main.grown.moved + moves_each old.main.growth * length commands
+    grown-le = moves_each-le old.main.growth _ _ (sum_by added r.run.turns) (length commands) few (r.growth empty (all_add_or_remove commands a))
+
+    -- and it allocated few blocks for so many
+    pub blocks-le : FewBlocks old.main.growth (new.main.grown.blocks - old.main.grown.blocks) (length commands)
+    blocks-le = FewBlocks-more old.main.growth _ (sum_by added r.run.turns) (length commands) few (r.blocks empty (all_add_or_remove commands a))
 
   -- each command has one reply
   pub replies-count : {size : ℕ} {calls : Calls T A K S} {old new : State T A K S} {commands : List (Command T A)} {replies : List (Reply T)}

@@ -9,10 +9,14 @@
 --     with_room     the constructors, the reserves and the shrinks
 --     shown     slice, slice_mut, and what a loan wrote back
 --     in_runs     move_one, move_run, transfer, drop_run, put_array, take_array
+--     emptied     that no place holds a value when the block is dropped, after drop_run, take_array, transfer, forget_run, forget_from
+--     at_sides, around_run, grown_at_end     that the places before a run, or after it, hold none
 --     numbers     the kind and the number of the error of a failed allocation
 -- With many lemmas the search proves less: name no more of them than a function needs. Proofs by hand cite the single lemmas.
 pub use Rattle.aa_raw.proofs.Calls.{at_ends, with_room, shown}
 pub use Rattle.allocator_api2.proofs.BlocksMoved.{at_positions, in_runs}
+pub use Rattle.aa_raw.proofs.Beyond.{at_sides, around_run, emptied, grown_at_end, none_there, none-at, none-each, none-still, none-within}
+pub use Rattle.aa_raw.proofs.Places.{length-with_run}
 pub use Rattle.aa_raw.proofs.Errors.{numbers}
 pub use Rattle.aa_raw.proofs.TwoRuns.{apart}
 pub use Rattle.aa_raw.proofs.BothEnds.{at_both_ends, between, two_runs, by_arithmetic, rotated, slice_get-front, slice_get-after, slice_get-run_from, run-unshift, IsRun-unshift}

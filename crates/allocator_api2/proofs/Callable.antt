@@ -1,5 +1,5 @@
 -- Closures that may be called as a run calls them: in states that remain good, and with any arguments.
-use Rattle.allocator_api2.proofs.Common.{ℕ, Bool, true, false, List, [], ◌∷◌, length, take, sym, subst, ⊤, slice_range, Call, CalledInOrder, ChainsFrom, Deduplicated, Command, SplitOff, Retain, Dedup, ExtractIf, Reply, Done, State, Calls, Step, MayRun}
+use Rattle.allocator_api2.proofs.Common.{ℕ, Bool, true, false, List, [], ◌∷◌, length, take, sym, subst, ⊤, rules, slice_range, Call, CalledInOrder, ChainsFrom, Deduplicated, Command, Retain, Dedup, ExtractIf, Reply, Done, State, Calls, Step, MayRun}
 use Rattle.aa_vec.specs.Choosing.{MayCallInOrder, MayChainFrom, MayDeduplicate}
 use Rattle.allocator_api2.specs.Run.{MayCall, IsCallableOnRuns}
 
@@ -50,10 +50,9 @@ module _ {T A K S : Type 0} (size : ℕ) (calls : Calls T A K S) where
     step_stays : (s next : State T A K S) (command : Command T A) (results : List Bool) (reply : Reply T) → good_keep s.keep → good_same s.same → Step size calls s command results reply next → good_keep next.keep × good_same next.same
     step_stays s next Retain results reply k r step = (asked_stays s.keep next.keep s.main.items step.retains.calls k step.retains.called, subst good_same (sym step.same) r)
     step_stays s next Dedup results reply k r step = (subst good_keep (sym step.keep) k, deduplicated_stays s.same next.same s.main.items step.removes.left step.removes.results r step.removes.called)
-    step_stays s next (SplitOff at) results reply k r step = (subst good_keep (sym step.cut.keep) k, subst good_same (sym step.cut.same) r)
     step_stays s next (ExtractIf start end count) results Done k r step =
         (asked_stays s.keep next.keep (take (length step.takes.calls) (slice_range s.main.items start end)) step.takes.calls k step.takes.called, subst good_same (sym step.same) r)
-    step_stays s next command results reply k r step = (subst good_keep (sym step.keep) k, subst good_same (sym step.same) r)
+    step_stays s next command results reply k r step = search (rules, step)
 
     may_run : (s : State T A K S) (commands : List (Command T A)) → good_keep s.keep → good_same s.same → MayRun size calls s commands
     may_run s [] k r = tt

@@ -1,26 +1,21 @@
 -- Elements that a run takes out of a range of main.
-use Rattle.allocator_api2.proofs.Common.{◌≡◌, ℕ, ◌+◌, ◌-◌, ◌<◌, ◌≤◌, Bool, List, [], ◌∷◌, ◌++◌, length, take, drop, Some, None, refl, sym, ap, ◌∙◌, subst, arith, inl, inr, length-append, length-drop, length-take, slice_range, ◌⊎◌, append-nil, drop-drop, take-append-drop, Call, CalledInOrder, Vector, len, HasRoom, Holds, SameBlock-refl, SameBlock-trans, Chosen, State, state_with_keep, Holds-more, length-map}
-use Rattle.std.specs.Prelude.{filter, not}
+use Rattle.allocator_api2.proofs.Common.{◌≡◌, ℕ, ◌+◌, ◌-◌, ◌<◌, ◌≤◌, Bool, List, [], ◌∷◌, ◌++◌, length, take, drop, Some, None, refl, sym, ap, arith, inl, inr, length-append, length-drop, length-take, slice_range, ◌⊎◌, append-nil, drop-drop, take-append-drop, Call, CalledInOrder, Vector, len, HasRoom, Holds, SameBlock, SameBlock-refl, SameBlock-trans, Chosen, State, state_with_keep, Holds-more}
 use Rattle.std.proofs.lemmas.List.{drop-append-le}
-use Rattle.std.proofs.lemmas.List.Filters.{length-filter_both}
 use Rattle.aa_vec.specs.Choosing.{EndsTrue, IsCallableInOrder, kept, passed_over}
 use Rattle.aa_vec.specs.Extract.{ClosesExtract, Extracts, ExtractsRange, extract_remaining, extract_tail}
 use Rattle.aa_vec.specs.declared.vec.extract_if.ExtractBy.{ExtractBy}
 use Rattle.aa_vec.proofs.Becoming.{SameBlock-becomes}
-use Rattle.aa_vec.proofs.ExtractRuns.{ExtractedTo, ExtractedTo-none, Extracted-more, Extracted-end, asked_count, extracts_may}
-use Rattle.allocator_api2.proofs.Taking.{choice_le}
+use Rattle.aa_vec.proofs.ExtractRuns.{asked_parts, ExtractedTo, ExtractedTo-none, Extracted-more, Extracted-end, asked_count, extracts_may}
+use Rattle.std.proofs.lemmas.Bool.Decides.{nat_tests}
 use Rattle.allocator_api2.specs.RangeCommands.{TakesUpTo}
 use Rattle.allocator_api2.specs.Machine.{TakesOut}
-
-passed_few : {T : Type 0} (calls : List (Call T)) → length (passed_over calls) ≤ length calls
-passed_few {T} calls = omega (arith, length-map (filter (λ (t : Call T). not t.result) calls) (λ t. t.left), length-filter_both (λ (t : Call T). t.result) (λ t. not t.result) (λ t. refl) calls)
 
 module _ {K T : Type 0} (Keeps : K → T → Bool → K → T → Type 0) where
   module _ {A : Type 0} where
     pub length-taken_out : {S : Type 0} (size : ℕ) (old : State T A K S) (start end count : ℕ) (new : State T A K S) → start ≤ end → end ≤ len old.main → (t : TakesOut Keeps size old start end count new)
         → length (take start old.main.items ++ (passed_over t.calls ++ drop (start + length t.calls) old.main.items)) ≤ len old.main
     length-taken_out size old start end count new low high t =
-        omega (arith, passed_few t.calls, asked_count Keeps old.keep new.keep _ t.calls t.called, length-append {A = T}, length-take {A = T}, length-drop {A = T})
+        omega (arith, asked_parts t.calls, asked_count Keeps old.keep new.keep _ t.calls t.called, length-append {A = T}, length-take {A = T}, length-drop {A = T})
 
     -- so many elements were taken and appended to side; the closure may be called for others
     pub record TakenSoFar (Takes : K → T → Type 0) (k : K) (range : ExtractBy T A) (side : Vector T A) (count : ℕ) (h : K) (later : ExtractBy T A) (new : Vector T A) : Type 0 where
@@ -58,39 +53,29 @@ module _ {K T : Type 0} (Keeps : K → T → Bool → K → T → Type 0) where
       abbrev calls : List (Call T)
       calls = up.extracted.calls
 
-      abbrev q : ℕ
-      q = length calls
-
-      abbrev middle : List T
-      middle = slice_range main.items start end
-
-      middle_long : length middle ≡ end - start
+      middle_long : length (slice_range main.items start end) ≡ end - start
       middle_long = omega (arith, length-take (end - start) (drop start main.items), length-drop start main.items, ordered)
 
-      asked : CalledInOrder Keeps k (take q middle) calls k'
-      asked = subst (λ l. CalledInOrder Keeps k (take q l) calls k') takes.rest up.extracted.called
+      asked : CalledInOrder Keeps k (take (length calls) (slice_range main.items start end)) calls k'
+      asked = rw takes.rest at up.extracted.called
 
-      few : q ≤ end - start
-      few = omega (arith, asked_count Keeps k k' (take q middle) calls asked, length-take q middle, middle_long)
+      few : length calls ≤ end - start
+      few = omega (arith, asked_count Keeps k k' _ calls asked, length-take (length calls) (slice_range main.items start end), middle_long)
 
-      rest_are : extract_remaining later ++ extract_tail later ≡ drop (start + q) main.items
+      rest_are : extract_remaining later ++ extract_tail later ≡ drop (start + length calls) main.items
       rest_are =
-          let n : ℕ = end - start in let ys : List T = drop start main.items in
-          let tail : extract_tail later ≡ drop n ys = up.extracted.tail ∙ takes.tail ∙ ap (λ i. drop i main.items) (omega (arith, ordered)) ∙ sym (drop-drop n start main.items) in
-          (λ i. (up.extracted.rest ∙ ap (drop q) takes.rest) i ++ tail i) ∙ sym (drop-append-le q (take n ys) (drop n ys) (omega (arith, few, middle_long))) ∙ ap (drop q) (take-append-drop n ys) ∙ drop-drop q start main.items
-
-      left_items : main'.items ≡ take start main.items ++ (passed_over calls ++ drop (start + q) main.items)
-      left_items = ap (λ v. v.items) closes ∙ (λ i. (ap (λ v. v.items) up.extracted.becomes ∙ ap (λ v. v.items) takes.becomes) i ++ ((up.extracted.kept ∙ ap (λ l. l ++ passed_over calls) takes.kept) i ++ rest_are i))
-
-      enough : (length (kept calls) ≡ most) × EndsTrue calls ⊎ (length (kept calls) < most) × (length calls ≡ end - start)
-      enough = grind (arith, up.enough, up.extracted.items, few, middle_long, up.extracted.rest, length-drop, takes.rest)
+          let n : ℕ = end - start in let ys : List T = drop start main.items in let joined = drop-append-le (length calls) (take n ys) (drop n ys) in
+          grind (arith, up.extracted.rest, up.extracted.tail, takes.rest, takes.tail, few, middle_long, joined, take-append-drop n ys, drop-drop)
 
       pub chosen : Chosen Keeps (state_with_keep main side k) start end most (state_with_keep main' side' k')
       chosen =
-          let block = SameBlock-trans (SameBlock-becomes _ _ _ _ _ takes.becomes) (SameBlock-trans (SameBlock-becomes _ _ _ _ _ up.extracted.becomes) (SameBlock-becomes _ _ _ _ _ closes)) in
-          let left : Holds main (take start main.items ++ (passed_over calls ++ drop (start + q) main.items)) main' = record { items = left_items; block = block } in
+          let block : SameBlock main main' = SameBlock-trans (SameBlock-becomes _ _ _ _ _ takes.becomes) (SameBlock-trans (SameBlock-becomes _ _ _ _ _ up.extracted.becomes) (SameBlock-becomes _ _ _ _ _ closes)) in
+          let left : Holds main (take start main.items ++ (passed_over calls ++ drop (start + length calls) main.items)) main' =
+          grind (arith, block, closes, up.extracted.becomes, up.extracted.kept, takes.becomes, takes.kept, rest_are) in
           let appended : Holds side (side.items ++ kept calls) side' = grind (arith, up.holds, up.extracted.items) in
-          let written : main'.written ≤ main.written + (len main' - start) = grind (arith, left_items, rest_are, choice_le, up.extracted.few, length-append, length-take) in
+          let written : main'.written ≤ main.written + (len main' - start) = grind (arith, left.items, rest_are, nat_tests, up.extracted.few, length-append, length-take) in
+          let enough : (length (kept calls) ≡ most) × EndsTrue calls ⊎ (length (kept calls) < most) × (length calls ≡ end - start) =
+          grind (arith, up.enough, up.extracted.items, few, middle_long, up.extracted.rest, length-drop, takes.rest) in
           search (asked, enough, left, appended, written)
 
 -- what a loop that takes such elements needs

@@ -9,11 +9,9 @@ pub mod ExtractParts
 pub mod Joined
 pub mod ByKind
 pub mod Paid
-pub mod Ranges
 pub mod Repeated
 pub mod Reserved
 pub mod Runs
-pub mod Kept
 pub mod Steps
 pub mod SpliceErrors
 pub mod SpliceRanges
@@ -21,7 +19,6 @@ pub mod ExtendErrors
 pub mod Taken
 pub mod BlocksMoved
 pub mod Blocks
-pub mod Repeats
 pub mod Sifting
 pub mod Slices
 pub mod Callers

@@ -1,7 +1,6 @@
 -- The capacity that a reserve made lasts for as many pushes.
-use Rattle.allocator_api2.proofs.Common.{ℕ, ◌+◌, ◌-◌, ◌≤◌, List, [], ◌∷◌, ◌++◌, length, ap, arith, rules, AllByRecursion, Vector, len, HasRoom, Within, Reply, Done, Back, Range, Replies, MakesRoom-has, ⊤}
+use Rattle.allocator_api2.proofs.Common.{ℕ, ◌+◌, ◌-◌, ◌≤◌, List, [], ◌∷◌, ◌++◌, length, length-append, ap, arith, rules, AllByRecursion, Vector, len, HasRoom, Within, Reply, Done, Replies, MakesRoom-has, ⊤}
 use Rattle.aa_vec.proofs.Becoming.{GrowsTo-becomes, Holds-becomes}
-use Rattle.std.proofs.lemmas.List.{length-append}
 use Rattle.allocator_api2.specs.Laws.{IsDone, PushesWithin, ReserveHolds}
 
 module _ {T A : Type 0} (size : ℕ) where
@@ -9,8 +8,6 @@ module _ {T A : Type 0} (size : ℕ) where
   push_done : (k : ℕ) (main side : Vector T A) (x : T) (reply : Reply T) (main' side' : Vector T A)
       → HasRoom main (k + 1) → Replies size ⊤ main side (Within x) reply main' side' → IsDone reply × HasRoom main' k
   push_done k main side x Done main' side' h s = (tt, grind (arith, Holds-becomes main (main.items ++ x ∷ []) 1 1 main' s.1.0.1, length-append main.items (x ∷ [])))
-  push_done k main side x (Back y) main' side' h s = absurd (omega (arith, h, s.1.0.0))
-  push_done k main side x Range main' side' h s = absurd (s.0 tt)
   push_done k main side x reply main' side' h s = search rules
 
   all_done : (k : ℕ) (main side : Vector T A) (xs : List T) (replies : List (Reply T))

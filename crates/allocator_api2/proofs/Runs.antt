@@ -1,9 +1,9 @@
 -- A run that is not at its end.
-use Rattle.allocator_api2.proofs.Common.{ℕ, ◌≡◌, ◌≤◌, max, List, [], ◌∷◌, ◌++◌, map, sym, ap, subst, arith, ◌∙◌, append_assoc, refl, AllByRecursion, append-nil, Command, Reply, State, Calls, IsPossible, PerformsStep, Turn, IsRun, RunsWithin, AddsOrRemoves, None, hint_of}
+use Rattle.allocator_api2.proofs.Common.{ℕ, ◌≡◌, ◌≤◌, max, List, [], ◌∷◌, ◌++◌, map, sym, subst, arith, ◌∙◌, append_assoc, refl, AllByRecursion, append-nil, Command, Reply, State, Calls, IsPossible, PerformsStep, Turn, IsRun, RunsWithin, AddsOrRemoves}
 use Rattle.std.proofs.lemmas.List.{map-append}
 use Rattle.allocator_api2.specs.Run.{greatest_length}
-use Rattle.allocator_api2.proofs.Paid.{places_for, places_for-le}
-use Rattle.allocator_api2.proofs.WholeRuns.{IsUnhinted, blocks_law, held_law, moves_law, places_law, writes_law}
+use Rattle.allocator_api2.proofs.Paid.{most_held-places, places_for, places_for-le}
+use Rattle.allocator_api2.proofs.WholeRuns.{IsUnhinted, paid_from_empty, placed_from_empty, writes_law}
 
 module _ {T A K S : Type 0} (size : ℕ) (calls : Calls T A K S) where
   -- two runs, one after the other, are one
@@ -20,35 +20,29 @@ module _ {T A K S : Type 0} (size : ℕ) (calls : Calls T A K S) where
     pub began : IsPossible old.main old.side
 
   pub HasRun-start : (old : State T A K S) (all : List (Command T A)) (before : List (Reply T)) → IsPossible old.main old.side → HasRun old all before all before old
-  HasRun-start old all before possible =
-      record { turns = []; run = refl; commands_are = refl; replies_are = sym (append-nil before); began = possible }
+  HasRun-start old all before possible = grind (arith, append-nil)
 
   pub HasRun-more : {old : State T A K S} {all : List (Command T A)} {before replies replies' : List (Reply T)} {rest : List (Command T A)} {now new : State T A K S} {command : Command T A} {reply : Reply T} → HasRun old all before (command ∷ rest) replies now → PerformsStep size calls now command reply new → IsPossible new.main new.side → replies' ≡ replies ++ reply ∷ [] → HasRun old all before rest replies' new
   HasRun-more {old = old} {before = before} {now = now} {new} {command} {reply} h s possible e =
       let t : Turn T A K S = record { before = now; command = command; results = s.results; reply = reply; after = new } in
-      record {
-        began = h.began;
-        turns = h.turns ++ t ∷ [];
-        run = IsRun-append old h.turns now (t ∷ []) new h.run (refl, record { step = s.step; writes = s.writes; possible = possible }, refl);
-        commands_are = rw (map-append, append_assoc) h.commands_are;
-        replies_are = rw map-append (e ∙ (ap (λ xs. xs ++ reply ∷ []) h.replies_are ∙ append_assoc before _ (reply ∷ [])));
-      }
+      let run = IsRun-append old h.turns now (t ∷ []) new h.run (refl, record { step = s.step; writes = s.writes; possible = possible }, refl) in
+      grind (arith, run, h, e, map-append, append_assoc)
 
   -- a run with no remaining command
   pub HasRun-end : {old : State T A K S} {all : List (Command T A)} {before replies : List (Reply T)} {now : State T A K S} → HasRun old all before [] replies now → (answered : List (Reply T)) × (replies ≡ before ++ answered) × RunsWithin size calls old all answered now
   HasRun-end {old = old} {all = all} {now = now} h =
-      let are : map (λ t. t.command) h.turns ≡ all = sym (append-nil _) ∙ h.commands_are in
-      let places : old.main.items ≡ [] → old.main.capacity ≡ 0 → AllByRecursion (λ command. AddsOrRemoves command × (hint_of command ≡ None)) all → now.main.capacity ≤ max 8 (places_for old.main.growth (greatest_length h.turns)) =
-      λ empty none plain. places_law size calls old h.turns now h.run empty none (subst (AllByRecursion IsUnhinted) (sym are) plain) in (
+      let are : map (λ t. t.command) h.turns ≡ all = sym (append-nil _) ∙ h.commands_are in let g = old.main.growth in let most = greatest_length h.turns in
+      let paid = λ (empty : old.main.items ≡ []) (plain : AllByRecursion AddsOrRemoves all). paid_from_empty size calls old h.turns now h.run empty (subst (AllByRecursion AddsOrRemoves) (sym are) plain) in
+      let placed = λ (empty : old.main.items ≡ []) (none : old.main.capacity ≡ 0) (plain : AllByRecursion IsUnhinted all). (placed_from_empty size calls old h.turns now h.run empty none (subst (AllByRecursion IsUnhinted) (sym are) plain)).few in (
         map (λ t. t.reply) h.turns,
         h.replies_are,
         record {
           run = record { possible = h.began; turns = h.turns; run = h.run; commands_are = are; replies_are = refl };
-          growth = λ empty plain. moves_law size calls old h.turns now h.run empty (subst (AllByRecursion AddsOrRemoves) (sym are) plain);
-          blocks = λ empty plain. blocks_law size calls old h.turns now h.run empty (subst (AllByRecursion AddsOrRemoves) (sym are) plain);
-          capacity = λ empty none plain. omega (arith, places empty none plain, places_for-le old.main.growth (greatest_length h.turns));
-          sparing = λ grows empty none plain. subst (λ g. now.main.capacity ≤ max 8 (places_for g (greatest_length h.turns))) grows (places empty none plain);
-          held = λ empty none plain. held_law size calls old h.turns now h.run empty none (subst (AllByRecursion IsUnhinted) (sym are) plain);
+          growth = λ empty plain. (paid empty plain).moved;
+          blocks = λ empty plain. (paid empty plain).few;
+          capacity = λ empty none plain. omega (arith, (placed empty none plain).places, places_for-le g most);
+          sparing = λ grows empty none plain. subst (λ g. now.main.capacity ≤ max 8 (places_for g most)) grows (placed empty none plain).places;
+          held = λ empty none plain. omega (arith, (placed empty none plain).held, most_held-places g most);
           writes = writes_law size calls old h.turns now h.run;
         },
       )

@@ -20,28 +20,16 @@ pub position_cases : {X : Type 0} (p : X → Bool) (xs : List X) → (position p
     × ((x : X) × (get_or xs i x ≡ x) × (p x ≡ true))
     × ((k : ℕ) (d : X) → k < i → p (get_or xs k d) ≡ false))
     ⊎ ((position p xs ≡ None) × ((k : ℕ) (d : X) → k < length xs → p (get_or xs k d) ≡ false)))
-position_cases {X} p xs = (
+position_cases p [] = (refl, inr (refl, λ k d lt. absurd (omega arith)))
+position_cases p (y ∷ ys) = (
   refl,
-  elim (cases_lt (position_or_len p xs) (length xs)) [
-    | inl l ↦ inl (
-      position_or_len p xs,
-      l,
-      grind (arith, common_steps),
-      first xs l,
-      λ k d lt.
-          fails_before_first p xs k d lt,
-    )
+  let xs = y ∷ ys in let i = position_or_len p xs in elim (cases_lt i (length xs)) [
+    | inl l ↦
+        let x = get_or xs i y in
+        inl (i, l, grind (arith, common_steps), (x, get_or_default xs i x y l, passes_at_first p xs y l), λ k d lt. fails_before_first p xs k d lt)
     | inr l ↦ inr (grind (arith, common_steps), λ k d lt. fails_before_first p xs k d (omega arith))
   ],
 )
-  where
-    first : (ys : List X) → position_or_len p ys < length ys
-        → (x : X) × (get_or ys (position_or_len p ys) x ≡ x) × (p x ≡ true)
-    first [] l = absurd (omega arith)
-    first (y ∷ ys) l =
-        let i = position_or_len p (y ∷ ys) in
-        let x = get_or (y ∷ ys) i y in
-        (x, get_or_default (y ∷ ys) i x y l, passes_at_first p (y ∷ ys) y l)
 
 -- the items of a whole run of a range
 pub range_items : EveryRun nat_range_steps (λ p. p.whole ≡ true
@@ -58,17 +46,7 @@ pub map_in_place : {X : Type 0} (f : X → X) (xs : List X) (i : ℕ)
     × ((d : X) → i < length xs → get_or (map f (take i xs) ++ drop i xs) i d ≡ get_or xs i d)
     × ((d : X) → i < length xs → slice_set (map f (take i xs) ++ drop i xs) i (f (get_or xs i d))
     ≡ map f (take (i + 1) xs) ++ drop (i + 1) xs)
-map_in_place {X} f xs i = (
-  refl,
-  at,
-  λ d l.
-      let x = get_or xs i d in
-      map_over_more f xs (map f (take i xs) ++ drop i xs) i x l refl
-      (get_or_default xs i d x l ∙ sym (at x l)),
-)
-  where
-    at : (d : X) → i < length xs → get_or (map f (take i xs) ++ drop i xs) i d ≡ get_or xs i d
-    at d l = grind (arith, common_steps)
+map_in_place f xs i = (refl, λ d l. grind (arith, common_steps), λ d l. grind (arith, common_steps, map_over_more, get_or_default))
 
 -- a number that is inserted before an equal one leaves them sorted
 pub found_in_order : (xs : List ℕ) (x at : ℕ) → IsNonDecreasing xs → at < length xs

@@ -1,17 +1,18 @@
 -- What a step of the list machine does to main: it keeps its block, has grown once, or grew any number of times while it was full.
-use Rattle.allocator_api2.proofs.Common.{◌≡◌, ℕ, suc, ◌+◌, ◌-◌, ◌<◌, ◌≤◌, max, min, Bool, List, [], ◌∷◌, length, take, drop, None, Option, refl, sym, subst, ap, ◌∙◌, arith, rules, inl, inr, length-take, length-drop, Vector, len, SameBlock, GrowsTo, Holds, Command, Splice, SplitOff, Push, Within, Pop, Insert, Remove, SwapRemove, Truncate, Clear, Append, Extend, Retain, Dedup, Drain, ExtractIf, Reply, Done, Item, Nothing, Back, Refused, Range, GrowsInSteps, Extends, lower_bound_of, TryReserveError, TryReserveErrorKind, State, Calls, Step, Replies, AddsOrRemoves, hint_of, added_by}
+use Rattle.allocator_api2.proofs.Common.{◌≡◌, ℕ, suc, ◌+◌, ◌-◌, ◌<◌, ◌≤◌, max, min, Bool, List, [], ◌∷◌, length, take, drop, None, Option, refl, sym, subst, ap, ◌∙◌, arith, rules, inl, inr, length-append, length-take, length-drop, Vector, len, SameBlock, Holds, Command, Push, Within, Pop, Insert, Remove, SwapRemove, Truncate, Clear, Append, Extend, Retain, Dedup, Drain, ExtractIf, Reply, Done, Item, Refused, Range, GrowsInSteps, Extends, lower_bound_of, TryReserveError, TryReserveErrorKind, State, Calls, Step, Replies, AddsOrRemoves, hint_of, added_by}
 use Rattle.std.proofs.Common.{length-set}
 use Rattle.std.specs.Prelude.{Result, Ok, Err, slice_set, slice_index_or}
-use Rattle.std.proofs.lemmas.List.{length-append}
 use Rattle.std.proofs.lemmas.Bool.{cases_lt}
 use Rattle.aa_vec.specs.Extend.{grows, unchanged}
 use Rattle.aa_vec.proofs.GrowthLemmas.{MakesRoom, MakesRoom-has, MakesRoom-rises, MakesRoom-unchanged, SameBlock-refl, asks, block_of, grown_room}
 use Rattle.aa_vec.specs.Vector.{Becomes, with_room}
 use Rattle.aa_vec.proofs.Becoming.{GrowsTo-becomes, Holds-becomes}
-use Rattle.allocator_api2.proofs.Kept.{length-kept}
+use Rattle.aa_vec.proofs.ExtractRuns.{asked_count, asked_parts}
 use Rattle.allocator_api2.proofs.ExtractParts.{length-taken_out}
-use Rattle.allocator_api2.proofs.Ranges.{length-remaining_of}
-use Rattle.allocator_api2.specs.Machine.{InRange, Succeeds, FailsWith, ends_of}
+use Rattle.allocator_api2.specs.Machine.{Ends, InRange, Succeeds, FailsWith, ends_of, remaining_of}
+
+length-remaining_of : {T : Type 0} (xs : List T) (ends : Ends) (keep : Bool) → ends.start ≤ ends.end → ends.end ≤ length xs → length (remaining_of xs ends keep) ≤ length xs
+length-remaining_of xs ends keep h l = grind (arith, length-append, length-take, length-drop)
 
 module _ {T A : Type 0} (size : ℕ) where
   -- old grew any number of times while it had not places for `needed`, and is new; without a hint, it requested no more than is needed
@@ -31,21 +32,18 @@ module _ {T A : Type 0} (size : ℕ) where
   holds : {hint : Option ℕ} (old : Vector T A) (k : ℕ) (xs : List T) (new : Vector T A) → length xs ≤ min (len old + k) (max (len old) old.capacity) → Holds old xs new → Change hint old k new
   holds old k xs new h b = record { needed = len new; moves = λ w. kept b.block; longest = omega (arith, ap length b.items); fits = λ w. omega (arith, ap length b.items, b.block.capacity); full = omega arith }
 
-  adds : {hint : Option ℕ} (old : Vector T A) (k : ℕ) (xs : List T) (new : Vector T A) → length xs ≡ len old + k → GrowsTo size old k xs new → Change hint old k new
-  adds {hint} old k xs new h g =
-      let n : ℕ = len old in let l : len new ≡ n + k = ap length g.items ∙ h in
-      let moves : n ≤ old.capacity → Moves hint (n + k) old new = λ w. elim (cases_lt old.capacity (n + k)) [
-        | inr le ↦ kept (MakesRoom-unchanged size n k old new g.room (omega (arith, le)))
-        | inl lt ↦ grown n k w lt lt (λ none. omega arith) g.room (kept (SameBlock-refl new))
-      ] in
-      record { needed = n + k; moves = moves; longest = omega (arith, l); fits = λ w. omega (arith, l, w, MakesRoom-has size n k old new g.room, MakesRoom-rises size n k old new g.room); full = omega (arith, l) }
-
   -- the same of an equation
   becomes : {hint : Option ℕ} (old : Vector T A) (k : ℕ) (xs : List T) (n j : ℕ) (new : Vector T A) → length xs ≤ min (len old + k) (max (len old) old.capacity) → Becomes old xs n j new → Change hint old k new
   becomes old k xs n j new h e = holds old k xs new h (Holds-becomes old xs n j new e)
 
   grows_by : {hint : Option ℕ} (old : Vector T A) (k : ℕ) (xs : List T) (n j : ℕ) (new : Vector T A) → length xs ≡ len old + k → Becomes (with_room size old (len old) k) xs n j new → Change hint old k new
-  grows_by old k xs n j new h e = adds old k xs new h (GrowsTo-becomes old xs n j new size k e)
+  grows_by {hint} old k xs n j new h e =
+      let g = GrowsTo-becomes old xs n j new size k e in let n : ℕ = len old in let l : len new ≡ n + k = ap length g.items ∙ h in
+      let moves : n ≤ old.capacity → Moves hint (n + k) old new = λ w. elim (cases_lt old.capacity (n + k)) [
+        | inr le ↦ kept (MakesRoom-unchanged size n k old new g.room (omega (arith, le)))
+        | inl lt ↦ grown n k w lt lt (λ none. omega arith) g.room (kept (SameBlock-refl new))
+      ] in
+      record { needed = n + k; moves = moves; longest = omega (arith, l); fits = λ w. omega (arith, l, w, MakesRoom-has size n k old new g.room, MakesRoom-rises size n k old new g.room); full = omega (arith, l) }
 
   grown_in_steps : (hint : Option ℕ) (needed : ℕ) {u v : Vector T A} → GrowsInSteps size (lower_bound_of hint) needed u v → Moves hint needed u v
   grown_in_steps hint needed {u} {v} (unchanged b) = kept (block_of u v b)
@@ -54,7 +52,7 @@ module _ {T A : Type 0} (size : ℕ) where
 
   -- all were put there, or the places that there are were filled
   ends : (lower : ℕ → ℕ) (old : Vector T A) (added : List T) (r : Result Unit TryReserveError) (new : Vector T A) → Extends size lower old old.items added r new → min (len old + length added) new.capacity ≤ len new
-  ends lower old added (Ok x) new e = omega (arith, ap length e.items ∙ length-append old.items e.front, ap length e.begins ∙ length-append e.front e.others, ap length e.all)
+  ends lower old added (Ok x) new e = grind (arith, length-append, e.items, e.begins, e.all)
   ends lower old added (Err x) new e = omega (arith, ap length e.items ∙ length-append old.items e.front, e.error.1)
 
   extends : (hint : Option ℕ) (old : Vector T A) (added : List T) (r : Result Unit TryReserveError) (new : Vector T A) → Extends size (lower_bound_of hint) old old.items added r new → Change hint old (len new - len old) new
@@ -79,9 +77,7 @@ module _ {T A : Type 0} (size : ℕ) where
   change_done main side (Extend items hint) Done main' side' a r m = extends hint main items.items (Ok tt) main' m.0
   change_done main side (Drain start end front back keep) Done main' side' a r m =
       holds main 0 _ main' (omega (arith, length-remaining_of main.items (ends_of start end front back) keep r.0 r.1)) m.0
-  change_done main side (Within x) (Back y) main' side' a r m = same main main' m.0.2
-  change_done main side Pop Nothing main' side' a r m = same main main' m.0.1
-  change_done main side command reply main' side' a r m = search rules
+  change_done main side command reply main' side' a r m = search (rules, same)
 
   -- what one that failed has left of it
   change_failed : (sure : Type 0) (main side : Vector T A) (command : Command T A) (kind : TryReserveErrorKind) (main' : Vector T A) → AddsOrRemoves command → FailsWith size sure main side command (record { kind = kind }) main' → Change (hint_of command) main (added_by main side command (Refused kind) main') main'
@@ -100,12 +96,10 @@ module _ {T A : Type 0} (size : ℕ) where
 
   module _ {K S : Type 0} (calls : Calls T A K S) where
     pub change_of : (old : State T A K S) (command : Command T A) (results : List Bool) (reply : Reply T) (new : State T A K S) → AddsOrRemoves command → Step size calls old command results reply new → Change (hint_of command) old.main (added_by old.main old.side command reply new.main) new.main
-    change_of old (SplitOff at) results reply new a s = absurd a
-    change_of old (Splice start end items hint) results reply new a s = absurd a
     change_of old Retain results reply new a s =
-        let r = s.retains in holds old.main 0 _ new.main (omega (arith, length-kept calls.keeps old.keep old.main.items r.calls new.keep r.called)) (Holds-becomes _ _ _ _ _ r.becomes)
+        let r = s.retains in holds old.main 0 _ new.main (omega (arith, asked_parts r.calls, asked_count calls.keeps old.keep new.keep old.main.items r.calls r.called)) (Holds-becomes _ _ _ _ _ r.becomes)
     change_of old Dedup results reply new a s =
         let r = s.removes in holds old.main 0 _ new.main (omega (arith, r.fewer, ap (λ v. length v.items) r.becomes)) (Holds-becomes _ _ _ _ _ r.becomes)
     change_of old (ExtractIf start end count) results Done new a s =
         let t = s.takes in holds old.main 0 _ new.main (omega (arith, length-taken_out calls.keeps size old start end count new s.in_range.0 s.in_range.1 t)) t.leaves
-    change_of old command results reply new a s = change_lists (¬ (calls.infallible old.main.alloc)) old.main old.side command reply new.main new.side a s.lists
+    change_of old command results reply new a s = search (rules, a, s, change_lists)

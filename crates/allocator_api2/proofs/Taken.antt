@@ -13,8 +13,7 @@ ClonesNone command = ⊤
 -- so the same replies are possible
 for_any : {T A : Type 0} (f g : Type 0) (size : ℕ) (main side : Vector T A) (command : Command T A) (reply : Reply T) (main' side' : Vector T A) → ClonesNone command → Replies size f main side command reply main' side' → Replies size g main side command reply main' side'
 for_any f g size main side (SplitOff at) reply main' side' c a = absurd c
-for_any f g size main side (Splice start end items hint) reply main' side' c a = absurd c
-for_any f g size main side command reply main' side' c a = a
+for_any f g size main side command reply main' side' c a = search rules
 
 module _ {T A K S : Type 0} {size : ℕ} {calls : Calls T A K S} {main side main' : Vector T A} {k : K} {s : S} where
   -- where the command calls no closure
@@ -31,20 +30,14 @@ module _ {T A K S : Type 0} {size : ℕ} {calls : Calls T A K S} {main side main
     takes_alone c calls_none t = takes_both c calls_none (t side)
 
   module _ {side' : Vector T A} {k' : K} (start end count : ℕ) where
-    chosen : (reply : Reply T) → TakesChosen size calls.keeps (state_with_keep main side k) start end count reply (state_with_keep main' side' k')
-        → PerformsStep size calls (state_of main side k s) (ExtractIf start end count) reply (state_of main' side' k' s)
-    chosen Done t =
-        let h = t.1 in
-        let takes : TakesOut calls.keeps size (state_of main side k s) start end count (state_of main' side' k' s) =
-        record { calls = h.calls; called = h.called; enough = h.enough; leaves = h.leaves; appends = h.appends } in
-        record { results = results_of h.calls; step = record { in_range = t.0; same = refl; takes = takes; called = refl }; writes = t.2 }
-    chosen reply t =
-        let lists = for_any ⊤ (calls.infallible main.alloc) size main side (ExtractIf start end count) reply main' side' tt t.1.replies in
-        record { results = []; step = record { none = refl; keep = t.0; same = refl; lists = lists }; writes = t.1.writes }
-
     pub takes_chosen : {reply : Reply T} {stated : Command T A} → stated ≡ ExtractIf start end count → TakesChosen size calls.keeps (state_with_keep main side k) start end count reply (state_with_keep main' side' k')
         → PerformsStep size calls (state_of main side k s) stated reply (state_of main' side' k' s)
-    takes_chosen {reply} e t = rw e (chosen reply t)
+    takes_chosen {reply = Done} e t =
+        let takes : TakesOut calls.keeps size (state_of main side k s) start end count (state_of main' side' k' s) = search (rules, t.1) in
+        rw e (record { results = results_of t.1.calls; step = record { in_range = t.0; same = refl; takes = takes; called = refl }; writes = t.2 })
+    takes_chosen {reply} e t =
+        let lists = for_any ⊤ (calls.infallible main.alloc) size main side (ExtractIf start end count) reply main' side' tt t.1.replies in
+        rw e (record { results = []; step = record { none = refl; keep = t.0; same = refl; lists = lists }; writes = t.1.writes })
 
   module _ {reply : Reply T} {stated : Command T A} where
     pub takes_cut : {side' : Vector T A} {at : ℕ} → stated ≡ SplitOff at → Performs size (calls.infallible main.alloc) main side (SplitOff at) reply main' side' → (reply ≡ Done → 0 < at → calls.clones main.alloc side'.alloc)

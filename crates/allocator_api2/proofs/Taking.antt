@@ -1,18 +1,14 @@
 -- Items taken out of a drain, one after the other, and appended to another vector.
-use Rattle.allocator_api2.proofs.Common.{◌≡◌, ℕ, ◌+◌, ◌-◌, ◌<◌, ◌≤◌, List, [], ◌∷◌, ◌++◌, length, take, drop, reverse, Bool, true, false, Some, refl, sym, ap, subst, ◌∙◌, arith, append_assoc, length-append, length-take, length-drop, length-reverse, slice_range, if◌then◌else◌, append-nil, drop-drop, take_all, take-append-drop, reverse-append, TakesRange, drain_remaining, drain_tail, drain_vec, Vector, len, HasRoom, SameBlock, Holds, SameBlock-refl, SameBlock-trans, TakesFront, TakesBack, Holds-more}
+use Rattle.allocator_api2.proofs.Common.{◌≡◌, ℕ, ◌+◌, ◌-◌, ◌<◌, ◌≤◌, List, [], ◌∷◌, ◌++◌, length, take, drop, reverse, Bool, true, false, Some, refl, sym, ap, ◌∙◌, arith, append_assoc, length-append, length-take, length-drop, length-reverse, slice_range, append-nil, drop-drop, take_all, take-append-drop, reverse-append, TakesRange, drain_remaining, drain_tail, drain_vec, Vector, len, HasRoom, SameBlock, Holds, SameBlock-refl, SameBlock-trans, TakesFront, TakesBack, Holds-more}
 use Rattle.std.proofs.Math.Seq.{take-add}
 use Rattle.std.proofs.lemmas.List.{drop_all, drop_at, take_at, take-take}
 use Rattle.aa_vec.specs.Drain.{Closes, KeepsRest, drains_first, drains_last}
 use Rattle.aa_vec.specs.declared.vec.drain.Drain.{Drain}
+use Rattle.std.proofs.lemmas.Bool.Decides.{nat_tests}
 use Rattle.aa_vec.proofs.Becoming.{SameBlock-becomes}
 use Rattle.aa_vec.proofs.DrainLemmas.{keeps-same, keeps-then}
 use Rattle.allocator_api2.specs.RangeCommands.{Drained, ends_at}
 use Rattle.allocator_api2.specs.Machine.{drained_of}
-
--- a choice is no more than the greater
-pub choice_le : (t : Bool) (a b : ℕ) → a ≤ b → (if t then a else b) ≤ b
-choice_le true a b h = h
-choice_le false a b h = omega arith
 
 module _ {T A : Type 0} (d : Drain T A) (side : Vector T A) where
   abbrev all : List T
@@ -58,36 +54,24 @@ pub ruleset takes = (TakesFront-none, TakesFront-room, TakesBack-none, TakesBack
 -- a range is taken out of `old`, f and b of it from either end appended to `side`, and then it is closed
 module _ {T A : Type 0} (old side : Vector T A) (start end f b : ℕ) (ordered : start ≤ end) (within : end ≤ len old) (few : f + b ≤ end - start)
     (d0 d1 d2 : Drain T A) (s1 s2 : Vector T A) (drains : TakesRange old start end d0) (fronts : TakesFront d0 side f d1 s1) (backs : TakesBack d1 s1 b d2 s2) where
-  abbrev m : ℕ
-  m = end - start
+  count_middle : length (slice_range old.items start end) ≡ end - start
+  count_middle = omega (arith, length-take (end - start) (drop start old.items), length-drop start old.items, ordered, within)
 
-  abbrev middle : List T
-  middle = slice_range old.items start end
-
-  count_middle : length middle ≡ m
-  count_middle = omega (arith, length-take m (drop start old.items), length-drop start old.items, ordered, within)
-
-  rest_front : drain_remaining d1 ≡ drop f middle
-  rest_front = fronts.rest ∙ ap (drop f) drains.rest
-
-  rest_back : drain_remaining d2 ≡ slice_range middle f (m - b)
-  rest_back = grind (arith, rest_front, count_middle, backs.rest, length-drop)
-
-  given_back : drop (length (drain_remaining d1) - b) (drain_remaining d1) ≡ drop (m - b) middle
-  given_back = grind (arith, rest_front, count_middle, length-drop, drop-drop)
+  rest_back : drain_remaining d2 ≡ slice_range (slice_range old.items start end) f (end - start - b)
+  rest_back = grind (arith, fronts.rest, drains.rest, count_middle, backs.rest, length-drop)
 
   side_gave : Holds side (side.items ++ drained_of old.items (ends_at start end f b)) s2
   side_gave =
-      subst (λ l. Holds side (side.items ++ l) s2) (λ i. take f (drains.rest i) ++ reverse (given_back i))
-      (Holds-more side s1 s2 (take f (drain_remaining d0)) (reverse (drop (length (drain_remaining d1) - b) (drain_remaining d1))) fronts.holds backs.holds)
+      let all_moved = Holds-more side s1 s2 _ _ fronts.holds backs.holds in
+      grind (arith, all_moved, fronts.rest, drains.rest, count_middle, length-drop, drop-drop)
 
   -- what is before the range and after it is kept
   stays : ((drain_vec d2).items ≡ take start old.items) × (drain_tail d2 ≡ drop end old.items) × SameBlock old (drain_vec d2) × ((drain_vec d2).written ≡ old.written)
   stays = grind (arith, keeps-then, drains.becomes, drains.tail, SameBlock-trans, SameBlock-becomes)
 
   pub Drained-dropped : {k : Bool} (w : Vector T A) → Closes d2 w → k ≡ false → Drained old side (ends_at start end f b) k w s2
-  Drained-dropped w c is = grind (arith, stays, side_gave, choice_le, length-drop end old.items, SameBlock-trans, SameBlock-becomes)
+  Drained-dropped w c is = grind (arith, stays, side_gave, nat_tests, length-drop end old.items, SameBlock-trans, SameBlock-becomes)
 
   pub Drained-kept : {k : Bool} (w : Vector T A) → KeepsRest d2 w → k ≡ true → Drained old side (ends_at start end f b) k w s2
   Drained-kept w c is =
-      grind (arith, stays, side_gave, rest_back, count_middle, choice_le, length-drop, length-take, SameBlock-trans, SameBlock-becomes)
+      grind (arith, stays, side_gave, rest_back, count_middle, nat_tests, length-drop, length-take, SameBlock-trans, SameBlock-becomes)

@@ -1,11 +1,10 @@
 -- Laws over whole runs.
-use Rattle.allocator_api2.proofs.Common.{◌≡◌, ℕ, ◌+◌, ◌*◌, ◌≤◌, max, List, [], ◌∷◌, map, length, sum_by, sym, ap, subst, refl, rules, arith, AllByRecursion, sum_by-cons, Growth, None, len, Command, State, Calls, Turn, IsRun, AddsOrRemoves, hint_of, added, moves_each}
+use Rattle.allocator_api2.proofs.Common.{◌≡◌, ℕ, ◌+◌, ◌≤◌, max, List, [], ◌∷◌, map, length, sum_by, sym, ap, subst, refl, arith, AllByRecursion, sum_by-cons, Growth, None, len, Command, State, Calls, Turn, IsRun, AddsOrRemoves, hint_of, added}
 use Rattle.std.proofs.Common.{add-zero, zero-add}
 use Rattle.allocator_api2.specs.Run.{cost, greatest_length}
-use Rattle.std.specs.Prelude.{◌-◌}
-use Rattle.aa_raw.specs.Growths.{FewBlocks, Growths, most_held}
+use Rattle.aa_raw.specs.Growths.{Growths}
 use Rattle.aa_raw.proofs.Costs.{FewBlocks-none, FewPlaces-none}
-use Rattle.allocator_api2.proofs.Paid.{IsPaid, IsPaid-change, IsPlaced, IsPlaced-change, Pays, most_held-places, places_for}
+use Rattle.allocator_api2.proofs.Paid.{IsPaid, IsPaid-change, IsPlaced, IsPlaced-change, Pays}
 use Rattle.allocator_api2.proofs.Steps.{change_of}
 
 -- the command has no hint
@@ -26,33 +25,11 @@ module _ {T A K S : Type 0} (size : ℕ) (calls : Calls T A K S) where
       subst (λ k. IsPaid size G paid k new.main) (sym e) (paid_run G paid (n + added t) t.after ts new r.2 q a.1)
 
   -- from an empty vector
-  paid_from_empty : (old : State T A K S) (ts : List (Turn T A K S)) (new : State T A K S) → IsRun size calls old ts new → old.main.items ≡ [] → AllByRecursion AddsOrRemoves (map (λ t. t.command) ts)
-      → Pays size old.main.growth old.main.grown (sum_by added ts) new.main
+  pub paid_from_empty : (old : State T A K S) (ts : List (Turn T A K S)) (new : State T A K S) → IsRun size calls old ts new → old.main.items ≡ [] → AllByRecursion AddsOrRemoves (map (λ t. t.command) ts)
+      → Pays old.main.growth old.main.grown (sum_by added ts) new.main.growth new.main.capacity new.main.grown
   paid_from_empty old ts new r empty plain =
-      let start : IsPaid size old.main.growth old.main.grown 0 old.main = record {
-        fits = omega (arith, ap length empty);
-        counted = omega (arith, ap length empty);
-        pays = record {
-          growth = refl;
-          places = omega arith;
-          moved = omega arith;
-          taken = 0;
-          blocks = omega arith;
-          for_places = FewPlaces-none old.main.growth old.main.capacity;
-          few = FewBlocks-none old.main.growth 0;
-        };
-      } in
+      let start : IsPaid size old.main.growth old.main.grown 0 old.main = grind (arith, empty, FewPlaces-none, FewBlocks-none) in
       rw zero-add at (paid_run old.main.growth old.main.grown 0 old ts new r start plain).pays
-
-  pub moves_law : (old : State T A K S) (ts : List (Turn T A K S)) (new : State T A K S) → IsRun size calls old ts new → old.main.items ≡ [] → AllByRecursion AddsOrRemoves (map (λ t. t.command) ts)
-      → new.main.grown.moved ≤ old.main.grown.moved + moves_each old.main.growth * sum_by added ts
-  moves_law old ts new r empty plain = (paid_from_empty old ts new r empty plain).moved
-
-  pub blocks_law : (old : State T A K S) (ts : List (Turn T A K S)) (new : State T A K S) → IsRun size calls old ts new → old.main.items ≡ [] → AllByRecursion AddsOrRemoves (map (λ t. t.command) ts)
-      → FewBlocks old.main.growth (new.main.grown.blocks - old.main.grown.blocks) (sum_by added ts)
-  blocks_law old ts new r empty plain =
-      let p = paid_from_empty old ts new r empty plain in
-      subst (λ k. FewBlocks old.main.growth k (sum_by added ts)) (omega (arith, p.blocks)) p.few
 
   placed_run : (G : Growth) (before most : ℕ) (old : State T A K S) (ts : List (Turn T A K S)) (new : State T A K S) → IsRun size calls old ts new → IsPlaced size G before most old.main → AllByRecursion IsUnhinted (map (λ t. t.command) ts)
       → IsPlaced size G before (max most (greatest_length ts)) new.main
@@ -62,18 +39,10 @@ module _ {T A K S : Type 0} (size : ℕ) (calls : Calls T A K S) where
       let e : max most (greatest_length (t ∷ ts)) ≡ max (max most (len t.after.main)) (greatest_length ts) = omega arith in
       subst (λ k. IsPlaced size G before k new.main) (sym e) (placed_run G before (max most (len t.after.main)) t.after ts new r.2 q a.1)
 
-  placed_from_empty : (old : State T A K S) (ts : List (Turn T A K S)) (new : State T A K S) → IsRun size calls old ts new → old.main.items ≡ [] → old.main.capacity ≡ 0 → AllByRecursion IsUnhinted (map (λ t. t.command) ts)
+  pub placed_from_empty : (old : State T A K S) (ts : List (Turn T A K S)) (new : State T A K S) → IsRun size calls old ts new → old.main.items ≡ [] → old.main.capacity ≡ 0 → AllByRecursion IsUnhinted (map (λ t. t.command) ts)
       → IsPlaced size old.main.growth old.main.grown.held (greatest_length ts) new.main
   placed_from_empty old ts new r empty none plain =
       let start : IsPlaced size old.main.growth old.main.grown.held 0 old.main =
-      record { growth = refl; fits = omega (arith, ap length empty); capacity = omega (arith, none); held = omega arith } in
+      record { fits = omega (arith, ap length empty); few = record { same = refl; places = omega (arith, none); held = omega arith } } in
       let e : max 0 (greatest_length ts) ≡ greatest_length ts = omega arith in
       subst (λ n. IsPlaced size old.main.growth old.main.grown.held n new.main) e (placed_run old.main.growth old.main.grown.held 0 old ts new r start plain)
-
-  pub places_law : (old : State T A K S) (ts : List (Turn T A K S)) (new : State T A K S) → IsRun size calls old ts new → old.main.items ≡ [] → old.main.capacity ≡ 0 → AllByRecursion IsUnhinted (map (λ t. t.command) ts)
-      → new.main.capacity ≤ max 8 (places_for old.main.growth (greatest_length ts))
-  places_law old ts new r empty none plain = (placed_from_empty old ts new r empty none plain).capacity
-
-  pub held_law : (old : State T A K S) (ts : List (Turn T A K S)) (new : State T A K S) → IsRun size calls old ts new → old.main.items ≡ [] → old.main.capacity ≡ 0 → AllByRecursion IsUnhinted (map (λ t. t.command) ts)
-      → new.main.grown.held ≤ max old.main.grown.held (most_held old.main.growth (greatest_length ts))
-  held_law old ts new r empty none plain = omega (arith, (placed_from_empty old ts new r empty none plain).held, most_held-places old.main.growth (greatest_length ts))

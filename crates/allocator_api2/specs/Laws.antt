@@ -4,7 +4,7 @@ use Rattle.std.specs.Prelude.{◌≡◌, ℕ, ◌≤◌, Bool, false, List, [], 
 use Rattle.std.specs.List.{AllByRecursion, IsDistinct, dedup}
 use Rattle.std.specs.List.Sorted.{IsSortedBy, ties}
 use Rattle.aa_raw.specs.declared.collections.Refused.{Refused}
-use Rattle.aa_vec.specs.Vector.{Vector, len, new_capacity}
+use Rattle.aa_vec.specs.Vector.{Vector, len, new_capacity, with_less}
 use Rattle.aa_vec.specs.Boxes.{boxed, ReturnsVector, IsUnboxed}
 use Rattle.aa_vec.specs.Choosing.{Equals, Deduplicated}
 use Rattle.allocator_api2.specs.declared.runner.Command.TheVariants.{Within, Reserve, SplitOff, Append}
@@ -79,11 +79,12 @@ LeavesDistinct {T} same =
     (lt : T → T → Bool) (xs : List T) → OrdersUpTo same lt → IsSortedBy lt xs
     → IsDistinct same (dedup same xs)
 
--- a vector that is converted to a boxed slice and back has the same list, with exact capacity. A
--- vector that could not be converted is returned in the error
+-- a vector that is converted to a boxed slice and back has the same list, with exact capacity, and
+-- its memory has cost no more than to shrink it. A vector that could not be converted is returned
+-- in the error
 abbrev pub BoxingKeeps : (T A : Type 0) (size : ℕ) → Type 0
 BoxingKeeps T A size =
-    (v : Vector T A)
-    → ((w : Vector T A) → IsUnboxed size (boxed v) w
-    → (w.items ≡ v.items) × (w.capacity ≡ new_capacity size (len v)))
+    (v : Vector T A) → let less = with_less size v (len v) in
+    ((w : Vector T A) → IsUnboxed size (boxed less) w
+    → (w.items ≡ v.items) × (w.capacity ≡ new_capacity size (len v)) × (w.grown ≡ less.grown))
     × ((r : Refused (Vector T A)) → ReturnsVector size v r → r.source ≡ v)

@@ -22,12 +22,14 @@ pub fn length_within_capacity<T, A: Allocator>(v: &Vec<T, A>)
 
 /// After a successful `Reserve` of k, the next k commands of a run succeed if all of them are
 /// `Within`.
+#[tactic(auto, using(crate::proofs::Reserved::reserve_holds))]
 pub fn reserved_room_takes_pushes<T, A: Allocator>()
     ensures { ReserveHolds T A (type_size T.row) }
 {}
 
 /// Splitting a list at an index and appending what was split off returns the same list, if both
 /// succeed.
+#[tactic(auto, using(crate::proofs::Joined::cut_is_joined))]
 pub fn cut_lists_join_again<T, A: Allocator>()
     ensures { CutIsJoined T A (type_size T.row) }
 {}
@@ -55,6 +57,7 @@ pub fn dedup_removes_all_duplicates_of_sorted<T: Ord>()
 ///
 /// `dedup_by` does so for a list that is sorted by any order. Its test returns `true` for two
 /// elements exactly if neither is less than the other.
+#[tactic(auto, using(crate::proofs::Distinct::leaves_distinct))]
 pub fn dedup_by_removes_all_duplicates_of_sorted<T, K: Ord>()
     ensures by_key { (key : T → K) (xs : List T) → IsSortedByKey key K.cmp xs
         → IsDistinct (λ x y. K.eq (key x) (key y)) (dedup (λ x y. K.eq (key x) (key y)) xs) }
@@ -62,6 +65,8 @@ pub fn dedup_by_removes_all_duplicates_of_sorted<T, K: Ord>()
 {}
 
 /// Converting a vector to a boxed slice and back returns the same list, with exact capacity.
+///
+/// Both together allocate as `shrink_to_fit` does.
 ///
 /// If the conversion to a boxed slice fails, the vector is returned in the error.
 pub fn boxed_lists_come_back<T, A: Allocator>()

@@ -106,11 +106,12 @@ impl<T, A: Allocator> Fixed<T, A> {
     }
 }
 
-#[tactic(auto, using(allocator_api2::proofs::Blocks::in_runs))]
+#[tactic(auto, using(allocator_api2::proofs::Blocks::in_runs, allocator_api2::proofs::Blocks::emptied))]
 impl<T: Drop, A: Allocator> Drop for Fixed<T, A> {
     /// Drops the values in order, and deallocates the block.
     fn drop(self) {
         let Fixed { mut block, len } = self;
         block.drop_run(0, len);
+        block.forget_from(len);
     }
 }

@@ -49,9 +49,10 @@ pub fn freeze<A: Allocator>(v: Vec<u64, A>) -> Result<BoxedSlice<u64, A>, Refuse
     v.into_boxed_slice()
 }
 
-/// Converts the boxed slice back into a vector.
+/// Converts the boxed slice back into a vector, without an allocation.
 pub fn thaw<A: Allocator>(b: BoxedSlice<u64, A>) -> Vec<u64, A>
-    ensures { result.items ≡ b.items }
+    ensures same { result.items ≡ b.items }
+    ensures grown { result.grown ≡ b.grown }
 {
     b.into_vec()
 }

@@ -102,8 +102,10 @@ impl<T, A: Allocator> Stack<T, A> {
 }
 
 impl<T: Drop, A: Allocator> Drop for Stack<T, A> {
+    #[tactic(auto, using(allocator_api2::proofs::Blocks::emptied))]
     fn drop(self) {
         let Stack { mut block, len } = self;
         block.drop_run(0, len);
+        block.forget_from(len);
     }
 }

@@ -2,6 +2,7 @@
 ghost use Rattle.std.specs.Prelude.{◌≡◌, ◌+◌, ◌^◌, ◌<◌, ◌++◌, ℕ, List, length, codes, decimal, IfOk, IfErr, IsTrue, OnErr, OnOk, ◌↔◌};
 ghost use Rattle.std.specs.Io.KnownBytes.{Consumes, IsAtEnd};
 ghost use Rattle.allocator_api2.specs.Errors.{IsErrorForAtLeast};
+ghost use Rattle.allocator_api2.specs.Growths.{of_new};
 ghost use Rattle.allocator_api2.specs.Vector.{HasRoom, Holds};
 
 use allocator_api2::boxed::{BoxedSlice, BoxedText};
@@ -97,7 +98,7 @@ pub fn beside<A: Allocator + Clone>(t: &BoxedText<A>) -> Result<BoxedText<A>, Tr
 
 /// Returns a copy of the text.
 pub fn another(t: &BoxedText) -> Result<BoxedText, TryReserveError>
-    ensures { IfOk result (λ c. c ≡ t.now) }
+    ensures { IfOk result (λ c. c ≡ record t.now { grown = of_new 1 (length t.now.bytes) }) }
 {
     t.clone()
 }

@@ -160,6 +160,7 @@ fn rooms() -> [Row; 9] {
 // capacity then.
 type Seen = (End, usize, End, usize);
 
+#[tactic(auto, using(aa_raw::proofs::Beyond::emptied))]
 fn seen_on(heap: &Faulty<Global>, call: Room, room: usize) -> Seen {
     let Ok(mut block) = RawVec::with_capacity_in(room, heap) else {
         return (End::TooLong, 0, End::TooLong, 0);
@@ -168,7 +169,9 @@ fn seen_on(heap: &Faulty<Global>, call: Room, room: usize) -> Seen {
     let first = reserved(call, &mut block);
     let left = block.capacity();
     let then = reserved(call, &mut block);
-    (first, left, then, block.capacity())
+    let capacity = block.capacity();
+    block.forget_from(0);
+    (first, left, then, capacity)
 }
 
 // Returns that, how many requests fail, and whether each block is freed once.

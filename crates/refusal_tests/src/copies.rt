@@ -105,9 +105,7 @@ pub(crate) fn called<'a>(call: Call, v: &mut Bytes<'a>, heap: &'a Faulty<Global>
 // Returns how a call ends that makes something, or reserves capacity.
 fn made(call: Call, heap: &Faulty<Global>) -> End {
     match call {
-        Call::BlockWithCapacityIn(many) => {
-            end_of_made(RawVec::<u32, _>::with_capacity_in(many, heap))
-        }
+        Call::BlockWithCapacityIn(many) => { end_of_made(block_capacity(many, heap)) }
         Call::TextWithCapacityIn(many) => {
             end_of_made(GapBuffer::<u32, _>::with_capacity_in(many, heap))
         }
@@ -122,6 +120,13 @@ fn made(call: Call, heap: &Faulty<Global>) -> End {
         Call::SliceFromArrayIn => end_of_array(BoxedSlice::from_array_in([1, 2, 3], heap)),
         _ => end_of_made(text_of(heap, "abc")),
     }
+}
+
+// The capacity of a block that is made with so many places, and dropped.
+#[tactic(auto, using(aa_raw::proofs::Beyond::emptied))]
+fn block_capacity(many: usize, heap: &Faulty<Global>) -> Result<usize, TryReserveError> {
+    let block = RawVec::<u32, _>::with_capacity_in(many, heap)?;
+    Ok(block.capacity())
 }
 
 // Makes something of the numbers 1 to 3, which an error returns, and returns how this ends.

@@ -2,6 +2,7 @@
 ghost use Rattle.std.specs.Prelude.{◌≡◌, ◌≤◌, length, MatchResult, IfOk, IfErr};
 ghost use Rattle.std.specs.Mem.{type_size};
 ghost use Rattle.aa_raw.specs.Errors.{AllocationFails, ClonesFail};
+ghost use Rattle.aa_raw.specs.Growths.{of_new};
 ghost use Rattle.aa_raw.specs.declared.raw_vec.Growth.TheVariants.{Doubling};
 ghost use Rattle.aa_boxed.specs.Room.{IsExactFor};
 ghost use Rattle.aa_boxed.specs.Arrays.{Unboxes, ReturnsBoxed};
@@ -24,7 +25,7 @@ impl<T> BoxedSlice<T, Global> {
     /// Corresponds to allocator-api2's `From<[T; N]>` for `Box<[T]>`, which aborts instead of
     /// returning an error.
     pub fn from_array<const N: usize>(alloc: Global, items: [T; N]) -> Result<Self, Refused<[T; N]>>
-        ensures made { IfOk result (λ b. b ≡ new_slice items alloc) }
+        ensures made { IfOk result (λ b. b ≡ new_slice (type_size T.row) items alloc) }
         ensures returned { IfErr result (λ r. r.source ≡ items) }
         ensures error { IfErr result (λ r. AllocationFails N (type_size T.row) r.error) }
     {
@@ -43,7 +44,7 @@ impl<T, A: Allocator> BoxedSlice<T, A> {
     ///
     /// Not in allocator-api2.
     pub fn from_array_in<const N: usize>(items: [T; N], alloc: A) -> Result<Self, Refused<[T; N]>>
-        ensures made { IfOk result (λ b. b ≡ new_slice items alloc) }
+        ensures made { IfOk result (λ b. b ≡ new_slice (type_size T.row) items alloc) }
         ensures returned { IfErr result (λ r. r.source ≡ items) }
         ensures error { IfErr result (λ r. AllocationFails N (type_size T.row) r.error) }
     {
@@ -87,7 +88,7 @@ impl<T, A: Allocator> BoxedSlice<T, A> {
     }
 
     // Returns all elements as an array, and deallocates the block.
-    #[tactic(auto, using(aa_raw::proofs::Calls::in_runs, aa_raw::proofs::Calls::shown))]
+    #[tactic(auto, using(aa_raw::proofs::Calls::in_runs, aa_raw::proofs::Calls::shown, aa_raw::proofs::Beyond::emptied))]
     fn into_array<const N: usize>(self) -> [T; N]
         requires { length self.items ≡ N }
         ensures { result ≡ self.items }
@@ -113,6 +114,7 @@ impl<T, A: Allocator, const N: usize> Box<[T; N], A> {
         A: Clone,
         ensures made { IfOk result (λ s. s.items ≡ b.value) }
         ensures growth { IfOk result (λ s. s.growth ≡ Doubling) }
+        ensures grown { IfOk result (λ s. s.grown ≡ of_new (type_size T.row) (length b.value)) }
         ensures alloc { IfOk result (λ s. A.is_clone b.alloc s.alloc) }
         ensures returned { IfErr result (λ r. r.source ≡ b) }
         ensures error { IfErr result
@@ -136,7 +138,12 @@ fn slice_from_array<T, A: Allocator, const N: usize>(
     items: [T; N],
 ) -> BoxedSlice<T, A>
     requires exact { IsExactFor N block.places × (N ≤ length block.places) }
-    ensures { result ≡ record { items = items; growth = block.growth; alloc = block.alloc } }
+    ensures { result ≡ record {
+      items = items;
+      growth = block.growth;
+      grown = block.grown;
+      alloc = block.alloc;
+    } }
 {
     let mut block = block;
     block.put_array(0, items);

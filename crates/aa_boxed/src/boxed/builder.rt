@@ -1,12 +1,12 @@
 //! A builder of boxed slices: a block that is filled from its first place on.
-ghost use Rattle.std.specs.Prelude.{◌≡◌, ◌≢◌, ◌+◌, ◌<◌, ◌≤◌, [], length, All, IfOk, IfErr, OnOk, IsOk, if◌then◌else◌, ◌==◌};
+ghost use Rattle.std.specs.Prelude.{◌≡◌, ◌≢◌, ◌+◌, ◌<◌, ◌≤◌, [], length, All, IfOk, IfErr, OnErr, OnOk, IsOk, if◌then◌else◌, ◌==◌};
 ghost use Rattle.std.specs.Bool.{OnTrue, OnFalse};
 ghost use Rattle.std.specs.List.{AllZip};
 ghost use Rattle.std.specs.Mem.{type_size};
-ghost use Rattle.aa_raw.specs.Growth.{amortized, min_capacity, new_capacity, usize_max};
+ghost use Rattle.aa_raw.specs.Growth.{amortized, min_capacity, usize_max};
 ghost use Rattle.aa_raw.specs.Errors.{AllocationFails};
 ghost use Rattle.aa_raw.specs.Room.{LacksRoom};
-ghost use Rattle.aa_boxed.specs.Slice.{Building, empty_builder, with_appended, with_pushed, finished};
+ghost use Rattle.aa_boxed.specs.Slice.{Building, empty_builder, with_appended, with_pushed, with_room, finished, shrunk};
 ghost use Rattle.aa_boxed.specs.BoxedSliceInner.{building_of, IsFront};
 
 use crate::boxed::slice::BoxedSlice;
@@ -33,14 +33,14 @@ impl<T, A: Allocator> Model for Builder<T, A> {
 impl<T, A: Allocator> Builder<T, A> {
     // Returns a builder without items, in a block with capacity for exactly `capacity`, with the
     // growth policy `growth`.
-    #[tactic(auto, using(aa_raw::proofs::Calls::at_ends))]
+    #[tactic(auto, using(aa_raw::proofs::Calls::at_ends, aa_raw::proofs::Beyond::emptied))]
     pub(crate) fn with_room(
         growth: Growth,
         capacity: usize,
         alloc: A,
     ) -> Result<Self, TryReserveError>
         ensures made { IfOk result
-            (λ f. f ≡ empty_builder (new_capacity (type_size T.row) capacity) growth alloc) }
+            (λ f. f ≡ empty_builder (type_size T.row) capacity growth alloc) }
         ensures error { IfErr result (AllocationFails capacity (type_size T.row)) }
     {
         let block = RawVec::with_capacity_and_growth_in(capacity, growth, alloc)?;
@@ -57,7 +57,7 @@ impl<T, A: Allocator> Builder<T, A> {
     }
 
     // Appends `item`.
-    #[tactic(auto, using(aa_raw::proofs::Calls::at_ends))]
+    #[tactic(auto, using(aa_raw::proofs::Calls::at_ends, aa_raw::proofs::Beyond::grown_at_end))]
     pub(crate) fn put(&mut self, item: T)
         requires { length self.old.items < self.old.capacity }
         ensures { self.new ≡ with_pushed self.old item }
@@ -69,18 +69,17 @@ impl<T, A: Allocator> Builder<T, A> {
     }
 
     // Reserves capacity for `additional` more items, by the growth policy.
-    #[tactic(auto, using(aa_raw::proofs::Calls::with_room))]
+    #[tactic(auto, using(aa_raw::proofs::Calls::with_room, aa_raw::proofs::Beyond::grown_at_end))]
     pub(crate) fn reserve(&mut self, additional: usize) -> Result<(), TryReserveError>
-        // The items, the growth policy and the allocator do not change.
-        ensures items { self.new.items ≡ self.old.items }
-        ensures growth { self.new.growth ≡ self.old.growth }
-        ensures alloc { self.new.alloc ≡ self.old.alloc }
+        // Success leaves the reserved capacity. The block grows only for items with a size.
+        ensures reserved { OnOk result
+            (self.new ≡ with_room (type_size T.row) self.old additional) }
+        ensures room { OnOk result (length self.old.items + additional ≤ self.new.capacity) }
+        ensures has_size { OnOk result
+            (self.old.capacity < length self.old.items + additional → 0 < type_size T.row) }
 
-        // The capacity never shrinks.
-        ensures capacity { self.old.capacity ≤ self.new.capacity }
-
-        // Success leaves the reserved capacity, and an error says why it is lacking.
-        ensures reserved { OnOk result (length self.old.items + additional ≤ self.new.capacity) }
+        // Failure changes nothing, and says why capacity is lacking.
+        ensures unchanged { OnErr result (self.new ≡ self.old) }
         ensures error { let items = length self.old.items in let capacity = self.old.capacity in
             let least = min_capacity (type_size T.row) in
             let requested = amortized self.old.growth capacity (items + additional) least in
@@ -101,11 +100,11 @@ impl<T, A: Allocator> Builder<T, A> {
     }
 
     // Shrinks the block to the items and returns them as a boxed slice.
-    #[tactic(auto, using(aa_raw::proofs::Calls::with_room))]
+    #[tactic(auto, using(aa_raw::proofs::Calls::with_room, aa_raw::proofs::Beyond::grown_at_end))]
     pub(crate) fn finish_shrunk(self) -> Result<BoxedSlice<T, A>, TryReserveError>
     where
         T: Drop,
-        ensures finished { IfOk result (λ b. b ≡ finished self) }
+        ensures finished { IfOk result (λ b. b ≡ finished (shrunk (type_size T.row) self)) }
         ensures error { IfErr result
             (λ e. (0 < length self.items) × (0 < type_size T.row)
             × (e.kind ≡ TryReserveErrorKind.AllocError (length self.items))) }
@@ -119,7 +118,7 @@ impl<T, A: Allocator> Builder<T, A> {
     }
 
     // Appends copies of all elements of `source`.
-    #[tactic(auto, using(aa_raw::proofs::Calls::in_runs))]
+    #[tactic(auto, using(aa_raw::proofs::Calls::in_runs, aa_raw::proofs::Beyond::grown_at_end))]
     pub(crate) fn put_copies(&mut self, source: &[T])
     where
         T: Copy,
@@ -145,9 +144,10 @@ impl<T, A: Allocator> Builder<T, A> {
         ensures cloned { OnTrue result (AllZip T.is_clone source.now self.new.items) }
         ensures failed { OnFalse result (¬ (All T.is_infallible source.now)) }
 
-        // The capacity, the growth policy and the allocator do not change.
+        // The block and the allocator do not change.
         ensures capacity { self.new.capacity ≡ self.old.capacity }
         ensures growth { self.new.growth ≡ self.old.growth }
+        ensures grown { self.new.grown ≡ self.old.grown }
         ensures alloc { self.new.alloc ≡ self.old.alloc }
     {
         let count = source.len();
@@ -162,6 +162,7 @@ impl<T, A: Allocator> Builder<T, A> {
 }
 
 impl<T: Drop, A: Allocator> Drop for Builder<T, A> {
+    #[tactic(auto, using(aa_raw::proofs::Beyond::emptied))]
     fn drop(self) {
         let Builder { mut block, len } = self;
         block.drop_run(0, len);

@@ -1,9 +1,10 @@
 //! The trait `Clone` for the boxes, by their own `clone`, so that lists of boxes can be cloned,
 //! extended and resized.
-ghost use Rattle.std.specs.Prelude.{◌≡◌, []};
+ghost use Rattle.std.specs.Prelude.{◌≡◌, [], length};
 ghost use Rattle.std.specs.List.{AllZip};
 ghost use Rattle.std.specs.Mem.{type_size};
 ghost use Rattle.aa_raw.specs.Clones.{ClonesCannotFail};
+ghost use Rattle.aa_raw.specs.Growths.{of_new};
 
 use crate::boxed::{Box, BoxedSlice, BoxedText};
 use std::alloc::{AllocError, Allocator, Global};
@@ -24,7 +25,7 @@ impl<T: Clone, A: Allocator + Clone> Clone for Box<T, A> {
 
 impl<T: Clone, A: Allocator + Clone> Clone for BoxedSlice<T, A> {
     ghost is_clone = { λ b c. AllZip T.is_clone b.items c.items × (c.growth ≡ b.growth)
-        × A.is_clone b.alloc c.alloc };
+        × (c.grown ≡ of_new (type_size T.row) (length b.items)) × A.is_clone b.alloc c.alloc };
 
     ghost is_infallible = { λ b. ClonesCannotFail T.is_infallible (type_size T.row) b.items
         × A.is_infallible b.alloc };
@@ -38,7 +39,7 @@ impl<T: Clone, A: Allocator + Clone> Clone for BoxedSlice<T, A> {
 }
 
 impl Clone for BoxedText<Global> {
-    ghost is_clone = { λ t u. u ≡ t };
+    ghost is_clone = { λ t u. u ≡ record t { grown = of_new 1 (length t.bytes) } };
 
     ghost is_infallible = { λ t. t.bytes ≡ [] };
 

@@ -1,5 +1,5 @@
 //! `BoxedSlice`, a list in a block without spare capacity.
-ghost use Rattle.std.specs.Prelude.{◌≡◌, ◌<◌, ◌≤◌, ◌⊎◌, [], None, length, All, IfOk, IfErr, IsOk, slice_index_or};
+ghost use Rattle.std.specs.Prelude.{◌≡◌, ◌<◌, ◌≤◌, ◌⊎◌, [], None, length, drop, All, IfOk, IfErr, IsOk, slice_index_or};
 ghost use Rattle.std.specs.List.{AllZip};
 ghost use Rattle.std.specs.Mem.{type_size};
 ghost use Rattle.std.specs.Borrow.{sem};
@@ -7,11 +7,12 @@ ghost use Rattle.std.specs.Iterator.{IsFinite, IsFiniteIterable, IsNearerEnd, Dr
 ghost use Rattle.std.specs.Iterator.Runs.{WholeRun};
 ghost use Rattle.aa_raw.specs.Clones.{ClonesAreEqual};
 ghost use Rattle.aa_raw.specs.Growth.{new_capacity};
-ghost use Rattle.aa_raw.specs.Places.{IsRun};
+ghost use Rattle.aa_raw.specs.Growths.{of_new};
+ghost use Rattle.aa_raw.specs.Places.{AreEmpty, IsRun};
 ghost use Rattle.aa_raw.specs.Errors.{AllocationFails, ClonesFail};
 ghost use Rattle.aa_raw.specs.declared.raw_vec.Growth.TheVariants.{Doubling};
 ghost use Rattle.aa_boxed.specs.Room.{IsExactFor};
-ghost use Rattle.aa_boxed.specs.Slice.{new_slice, slice_of, CollectResult, FromIterFails, FailsAtEnd};
+ghost use Rattle.aa_boxed.specs.Slice.{new_slice, slice_of, CollectCost, CollectResult, FromIterFails, FailsAtEnd};
 ghost use Rattle.aa_boxed.specs.Hints.{LowerAtMost};
 ghost use Rattle.aa_boxed.specs.Slice.{Slice};
 ghost use Rattle.aa_boxed.specs.BoxedSliceInner.{view_of, IsWhole};
@@ -68,8 +69,8 @@ impl<T> BoxedSlice<T, Global> {
 
         // The record says what success returns, and which items were taken before an error.
         ensures collected { (it : I.IntoIter) × (after : I.IntoIter) × I.into_iter_gives iter it
-            × CollectResult I.IntoIter.next_gives (LowerAtMost I.IntoIter.remaining)
-            (type_size T.row) it alloc after result }
+            × CollectResult I.IntoIter.next_gives I.IntoIter.remaining (type_size T.row) it alloc
+            after result }
     {
         BoxedSlice::from_iter_in(iter, alloc)
     }
@@ -90,7 +91,7 @@ impl<T, A: Allocator> BoxedSlice<T, A> {
     pub fn from_slice(alloc: A, source: &[T]) -> Result<Self, TryReserveError>
     where
         T: Copy,
-        ensures made { IfOk result (λ b. b ≡ new_slice source.now alloc) }
+        ensures made { IfOk result (λ b. b ≡ new_slice (type_size T.row) source.now alloc) }
         ensures error { IfErr result (AllocationFails (length source.now) (type_size T.row)) }
     {
         let count = source.len();
@@ -127,8 +128,8 @@ impl<T, A: Allocator> BoxedSlice<T, A> {
 
         // The record says what success returns, and which items were taken before an error.
         ensures collected { (it : I.IntoIter) × (after : I.IntoIter) × I.into_iter_gives iter it
-            × CollectResult I.IntoIter.next_gives (LowerAtMost I.IntoIter.remaining)
-            (type_size T.row) it alloc after result }
+            × CollectResult I.IntoIter.next_gives I.IntoIter.remaining (type_size T.row) it alloc
+            after result }
     {
         let mut rest = iter.into_iter();
         BoxedSlice::from_iter_in_by(&mut rest, alloc)
@@ -162,6 +163,8 @@ impl<T, A: Allocator> BoxedSlice<T, A> {
 
         // The block grows by doubling, over the given allocator.
         ensures growth { IfOk result (λ b. b.growth ≡ Doubling) }
+        ensures grown { let most = size (I.remaining iter.old) in IfOk result
+            (λ b. CollectCost (type_size T.row) (length b.items) most b.grown) }
         ensures alloc { IfOk result (λ b. b.alloc ≡ alloc) }
 
         // Failure says which items were taken, and which allocation failed.
@@ -200,6 +203,8 @@ impl<T, A: Allocator> BoxedSlice<T, A> {
         A: Clone,
         ensures made { IfOk result (λ b. AllZip T.is_clone self.now.items b.items) }
         ensures growth { IfOk result (λ b. b.growth ≡ self.now.growth) }
+        ensures grown { IfOk result
+            (λ b. b.grown ≡ of_new (type_size T.row) (length self.now.items)) }
         ensures alloc { IfOk result (λ b. A.is_clone self.now.alloc b.alloc) }
         ensures copied { ClonesAreEqual T.is_clone → IfOk result (λ b. b.items ≡ self.now.items) }
         ensures error { let sure = All T.is_infallible self.now.items
@@ -235,13 +240,14 @@ impl<T, A: Allocator> BoxedSlice<T, A> {
         BoxedSlice { block, len }
     }
 
-    /// Returns the block, and the number of its filled places, which are its first.
+    /// Returns the block, and the number of its filled places, which are its first and only ones.
     ///
     /// Does not allocate.
     ///
     /// Not in allocator-api2.
     pub fn into_block(self) -> (RawVec<T, A>, usize)
         ensures filled { IsRun result.0.places 0 result.1 }
+        ensures others { AreEmpty (drop result.1 result.0.places) }
         ensures exact { IsExactFor result.1 result.0.places }
         ensures unchanged { slice_of result.0 result.1 ≡ self }
     {
@@ -289,7 +295,8 @@ impl<T, A: Allocator> BoxedSlice<T, A> {
 }
 
 impl<T, A: Allocator + Default> Default for BoxedSlice<T, A> {
-    ghost is_default = { λ b. (b.items ≡ []) × (b.growth ≡ Doubling) × A.is_default b.alloc };
+    ghost is_default = { λ b. (b.items ≡ []) × (b.growth ≡ Doubling)
+        × (b.grown ≡ of_new (type_size T.row) 0) × A.is_default b.alloc };
 
     /// Returns an empty boxed slice, over the default allocator.
     ///
@@ -302,6 +309,7 @@ impl<T, A: Allocator + Default> Default for BoxedSlice<T, A> {
 
 impl<T: Drop, A: Allocator> Drop for BoxedSlice<T, A> {
     /// Drops the elements in order and deallocates the memory.
+    #[tactic(auto, using(aa_raw::proofs::Beyond::emptied))]
     fn drop(self) {
         let BoxedSlice { mut block, len } = self;
         block.drop_run(0, len);

@@ -7,6 +7,7 @@ ghost use Rattle.std.specs.Iterator.Adapters.{IterYieldsInOrder, IterYieldsInRev
 ghost use Rattle.std.specs.Slice.Iter.{iter_rest, iter_mut_rest};
 ghost use Rattle.aa_raw.specs.Growth.{new_capacity};
 ghost use Rattle.aa_raw.specs.declared.raw_vec.Growth.TheVariants.{Doubling};
+ghost use Rattle.aa_boxed.specs.Slice.{CollectCost};
 
 use crate::boxed::slice::BoxedSlice;
 use aa_raw::vec::into_iter::IntoIter;
@@ -124,7 +125,7 @@ impl<T: Drop, A: Allocator> IntoIterator for BoxedSlice<T, A> {
 
     type IntoIter = IntoIter<T, A>;
 
-    ghost into_iter_gives = { λ b i. (i.items ≡ b.items) × (i.alloc ≡ b.alloc)
+    ghost into_iter_gives = { λ b i. (i.items ≡ b.items) × (i.grown ≡ b.grown) × (i.alloc ≡ b.alloc)
         × (i.capacity ≡ new_capacity (type_size T.row) (length b.items)) };
 
     /// Returns a double-ended iterator over the elements, by value, in the same block.
@@ -150,7 +151,9 @@ impl<T: Drop, A: Allocator> FromIterator<T> for BoxedSlice<T, A> {
         requires finite { IsFiniteIterable U.into_iter_gives U.IntoIter.can_next
             U.IntoIter.remaining iter }
         ensures collected { IfOk result (λ b. (it : U.IntoIter) × U.into_iter_gives iter it
-            × Drains U.IntoIter.next_gives it b.items × (b.growth ≡ Doubling)) }
+            × Drains U.IntoIter.next_gives it b.items × (b.growth ≡ Doubling)
+            × CollectCost (type_size T.row) (length b.items) (size (U.IntoIter.remaining it))
+            b.grown) }
         ensures fits { ((it : U.IntoIter) → U.into_iter_gives iter it
             → size (U.IntoIter.remaining it) ≤ new_capacity (type_size T.row) 0) → IsOk result }
     {

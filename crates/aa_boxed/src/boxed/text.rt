@@ -3,6 +3,7 @@ ghost use Rattle.std.specs.Prelude.{◌≡◌, ◌+◌, ◌<◌, ◌≤◌, ◌+
 ghost use Rattle.std.specs.Iterator.{IsFinite, IsNearerEnd, Drains, YieldsThen};
 ghost use Rattle.std.specs.String.{string_bytes, string_capacity};
 ghost use Rattle.aa_raw.specs.Errors.{AllocationFails};
+ghost use Rattle.aa_raw.specs.Growths.{of_new};
 ghost use Rattle.aa_raw.specs.declared.raw_vec.Growth.TheVariants.{Doubling};
 ghost use Rattle.aa_boxed.specs.Text.{Text, bytes_of, new_text, text_of_slice};
 ghost use Rattle.aa_boxed.specs.Text.{reserved_capacity, StringReserveFails, AppendsTexts, FailsAtText};
@@ -43,7 +44,8 @@ impl BoxedText<Global> {
     ///
     /// allocator-api2's `clone` aborts instead of returning an error.
     pub fn clone(&self) -> Result<Self, TryReserveError>
-        ensures made { IfOk result (λ t. t ≡ self.now) }
+        ensures made { IfOk result
+            (λ t. t ≡ record self.now { grown = of_new 1 (length self.now.bytes) }) }
         ensures error { IfErr result (AllocationFails (length self.now.bytes) 1) }
     {
         let bytes = self.bytes.clone()?;
@@ -156,7 +158,8 @@ impl<'a, A: Allocator + 'a> AsDeref<'a> for BoxedText<A> {
 }
 
 impl<A: Allocator + Default> Default for BoxedText<A> {
-    ghost is_default = { λ t. (t.bytes ≡ []) × (t.growth ≡ Doubling) × A.is_default t.alloc };
+    ghost is_default = { λ t. (t.bytes ≡ []) × (t.growth ≡ Doubling) × (t.grown ≡ of_new 1 0)
+        × A.is_default t.alloc };
 
     /// Returns an empty text, over the default allocator.
     ///

@@ -1,5 +1,5 @@
 //! `UninitBox`, a box for a value that is still to be written.
-ghost use Rattle.std.specs.Prelude.{◌≡◌, ◌<◌, IfOk, IfErr};
+ghost use Rattle.std.specs.Prelude.{◌≡◌, ◌<◌, None, IfOk, IfErr};
 ghost use Rattle.std.specs.Mem.{type_size};
 
 use crate::boxed::Box;
@@ -20,6 +20,8 @@ impl<T, A: Allocator> Model for UninitBox<T, A> {
     ghost Value = { A };
 
     ghost view = { λ b. b.block.alloc };
+
+    ghost invariant = { λ b. b.block.place ≡ None };
 }
 
 impl<T, A: Allocator> UninitBox<T, A> {

@@ -13,7 +13,7 @@ impl<T, A: Allocator> GapBuffer<T, A> {
     ghost use Rattle.aa_gap.specs.BufferLends.{lends_before, lends_text, lends_all};
 
     // Returns the elements before the cursor as a mutable slice.
-    #[tactic(auto, using(aa_raw::proofs::Calls::shown, aa_raw::proofs::Calls::in_runs))]
+    #[tactic(auto, using(aa_raw::proofs::Calls::shown, aa_raw::proofs::Calls::in_runs, crate::proofs::Parts::beside))]
     fn before_mut(&mut self) -> &mut [T]
         ensures* writes_back { sem 𝓛 (lends_before T.row A.row A.Allocator self.entry result) }
         ensures value { result.now ≡ self.old.before }

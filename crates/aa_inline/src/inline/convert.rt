@@ -1,6 +1,9 @@
 //! Conversions of a small vector.
 ghost use Rattle.std.specs.Prelude.{◌≡◌, length, false, true, IfErr, IfOk, IsOk, OnErr, OnOk};
+ghost use Rattle.std.specs.Mem.{type_size};
 ghost use Rattle.allocator_api2.specs.Errors.{IsErrorFor};
+ghost use Rattle.allocator_api2.specs.Growths.{of_new};
+ghost use Rattle.allocator_api2.specs.Slice.{new_slice};
 ghost use Rattle.allocator_api2.specs.declared.raw_vec.Growth.TheVariants.{Doubling};
 
 use crate::few::Few;
@@ -21,8 +24,10 @@ impl<T: MadeWith<A> + Drop, A: Allocator + Copy, const N: usize> InlineVec<T, A,
     /// vector is returned in the error, as it was.
     pub fn into_boxed_slice(self) -> Result<BoxedSlice<T, A>, Refused<Self>>
         ensures fits { self.spilled ≡ true → length self.items ≡ self.block → IsOk result }
-        ensures made { IfOk result (λ b.
-            b ≡ record { items = self.items; growth = Doubling; alloc = self.alloc }) }
+        ensures made { IfOk result (λ b. b ≡
+            record { items = self.items; growth = Doubling; grown = b.grown; alloc = self.alloc }) }
+        ensures grown { self.spilled ≡ false → IfOk result
+            (λ b. b.grown ≡ of_new (type_size T.row) (length self.items)) }
         ensures returned { IfErr result (λ r. r.source ≡ self) }
         ensures error { IfErr result (λ r. IsErrorFor r.error (length self.items)) }
     {
@@ -89,8 +94,7 @@ fn move_to_boxed_slice<T: MadeWith<A> + Drop, A: Allocator + Copy, const N: usiz
     few: &mut Few<T, N>,
     alloc: A,
 ) -> Result<BoxedSlice<T, A>, TryReserveError>
-    ensures made { IfOk result (λ b.
-        b ≡ record { items = few.old; growth = Doubling; alloc = alloc }) }
+    ensures made { IfOk result (λ b. b ≡ new_slice (type_size T.row) few.old alloc) }
     ensures error { IfErr result (λ e. IsErrorFor e (length few.old)) }
     ensures unchanged { OnErr result (few.new ≡ few.old) }
 {

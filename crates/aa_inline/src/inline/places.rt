@@ -2,6 +2,7 @@
 ghost use Rattle.std.specs.Prelude.{◌≡◌, ◌<◌, ◌≤◌, [], length, IfErr, IfOk, IsOk, OnErr, OnOk};
 ghost use Rattle.std.specs.Mem.{type_size};
 ghost use Rattle.allocator_api2.specs.Errors.{IsErrorFor};
+ghost use Rattle.allocator_api2.specs.Growths.{of_new};
 ghost use Rattle.allocator_api2.specs.declared.raw_vec.Growth.TheVariants.{Doubling};
 ghost use Rattle.aa_inline.specs.Inlined.{back_in_place, block_of, in_new_block, in_place, resized, with_block, with_places};
 
@@ -131,6 +132,7 @@ pub(super) fn move_to_exact_block<T: MadeWith<A> + Drop, A: Allocator + Copy, co
     ensures made { IfOk result
         (λ v. block_of v ≡ in_new_block (type_size T.row) capacity (in_place few.old alloc)) }
     ensures doubles { IfOk result (λ v. v.growth ≡ Doubling) }
+    ensures grown { IfOk result (λ v. v.grown ≡ of_new (type_size T.row) capacity) }
     ensures error { IfErr result (λ e. IsErrorFor e capacity) }
     ensures unchanged { OnErr result (few.new ≡ few.old) }
 {

@@ -2,6 +2,7 @@
 ghost use Rattle.std.specs.Prelude.{◌≡◌, ◌+◌, ◌*◌, ◌^◌, ◌<◌, ◌≤◌, [], ◌∷◌, ◌++◌, length, get_or, max, min, IfErr, IfOk, IfNone, IfSome, OnErr, OnOk, IsOk};
 ghost use Rattle.std.specs.Mem.{type_size};
 ghost use Rattle.allocator_api2.specs.Errors.{IsErrorFor};
+ghost use Rattle.allocator_api2.specs.Places.{AreEmpty};
 ghost use Rattle.allocator_api2.specs.declared.collections.TryReserveErrorKind.TheVariants.{AllocError};
 ghost use Rattle.aa_ordered.specs.declared.leaves.Head.{Head};
 ghost use Rattle.aa_ordered.specs.Arena.{AreNumbered};
@@ -71,6 +72,7 @@ impl<T, A: Allocator + Clone> Leaves<T, A> {
     // Moves all lists to a new block of `leaves` leaves.
     #[cold]
     #[inline(never)]
+    #[tactic(auto, using(allocator_api2::proofs::Blocks::emptied))]
     fn move_to(&mut self, leaves: usize) -> Result<(), TryReserveError>
         requires lists { length self.old.lists ≤ leaves }
         requires small { leaves * 64 < 2 ^ 64 }
@@ -94,6 +96,7 @@ impl<T, A: Allocator + Clone> Leaves<T, A> {
             self.block.allocator(),
         )?;
         moves::move_lists(&mut self.block, &self.heads.as_slice()[..used], &mut block);
+        self.block.forget_from(0);
         self.block = block;
         self.heads = heads;
         Ok(())
@@ -116,11 +119,13 @@ fn leaves_for(room: usize, len: usize, additional: usize) -> Option<usize>
 }
 
 // Returns a block with capacity for `capacity` items, allocated by a clone of `alloc`.
+#[tactic(auto, using(allocator_api2::proofs::Blocks::emptied))]
 fn block_for<T, A: Allocator + Clone>(
     alloc: &A,
     capacity: usize,
 ) -> Result<RawVec<T, A>, TryReserveError>
     ensures room { IfOk result (λ b. capacity ≤ length b.places) }
+    ensures empty { IfOk result (λ b. AreEmpty b.places) }
     ensures error { IfErr result (λ e. IsErrorFor e capacity) }
     ensures less { capacity * type_size T.row < 2 ^ 63
         → IfErr result (λ e. e.kind ≡ AllocError capacity) }

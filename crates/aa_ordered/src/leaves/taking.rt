@@ -124,6 +124,7 @@ impl<T: Drop, A: Allocator> FusedIterator for IntoItems<T, A> {}
 
 impl<T: Drop, A: Allocator> Drop for IntoItems<T, A> {
     /// Drops the remaining items and frees the memory.
+    #[tactic(auto, using(allocator_api2::proofs::Blocks::emptied))]
     fn drop(self) {
         let IntoItems {
             mut block,
@@ -138,6 +139,7 @@ impl<T: Drop, A: Allocator> Drop for IntoItems<T, A> {
                 None => {}
             }
         }
+        block.forget_from(0);
         drop(heads);
     }
 }

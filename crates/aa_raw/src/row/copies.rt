@@ -47,7 +47,7 @@ fn copy_from<T: Copy>(row: Row<T>, source: &[T]) -> Row<T>
 
 // Like `copy_from`, for at least `N` and at most `2 * N` elements.
 #[inline(always)]
-#[tactic(auto, using(crate::proofs::Places::lengths))]
+#[tactic(auto, using(crate::proofs::Places::copied))]
 fn copy_from_ends<T: Copy, const N: usize>(mut row: Row<T>, source: &[T]) -> Row<T>
     requires places { length row.places ≡ length source.now }
     requires within { (N ≤ length source.now) × (length source.now ≤ N + N) }

@@ -76,6 +76,7 @@ impl<T: Clone, A: Allocator + Clone> Clone for IntoIter<T, A> {
 
 // Writes clones of the elements of `source` into the first places, up to the first clone that
 // fails. Returns how many.
+#[tactic(auto, unfolding(crate::specs::Places::run))]
 fn put_clones<T: Clone, A: Allocator>(block: &mut RawVec<T, A>, source: &[T]) -> usize
     requires room { length source.now ≤ length block.old.places }
 

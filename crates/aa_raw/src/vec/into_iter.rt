@@ -224,6 +224,8 @@ impl<T: fmt::Debug, A: Allocator> fmt::Debug for IntoIter<T, A> {
 }
 
 impl<T: Drop, A: Allocator> Drop for IntoIter<T, A> {
+    /// Drops the remaining items in order, and deallocates the memory.
+    #[tactic(auto, using(crate::proofs::Beyond::emptied))]
     fn drop(self) {
         let Self {
             mut block,

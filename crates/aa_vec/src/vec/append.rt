@@ -7,6 +7,7 @@ ghost use Rattle.aa_vec.specs.Split.{Splits};
 
 use crate::vec::Vec;
 use aa_raw::collections::TryReserveError;
+use aa_raw::counter::Counter;
 use std::alloc::Allocator;
 use std::mem::replace;
 
@@ -54,7 +55,7 @@ impl<T, A: Allocator> Vec<T, A> {
 
     // Moves the elements of `other` from the index `at` on to the end of this vector. They fit.
     #[inline]
-    #[tactic(auto, using(aa_raw::proofs::Calls::in_runs, crate::proofs::Joining::transferred, crate::proofs::Becoming::becomes))]
+    #[tactic(auto, using(aa_raw::proofs::Calls::in_runs, crate::proofs::Joining::transferred, crate::proofs::Becoming::becomes, crate::proofs::Tidy::few_at_end))]
     fn take_from(&mut self, other: &mut Self, at: usize)
         requires within { at ≤ len other.old }
         requires room { HasRoom self.old (len other.old - at) }
@@ -106,6 +107,8 @@ impl<T, A: Allocator> Vec<T, A> {
             return Ok(Vec {
                 block: replace(&mut self.block, block),
                 len,
+                apart: replace(&mut self.apart, Counter::zero()),
+                settled: replace(&mut self.settled, Counter::zero()),
             });
         }
         let mut tail = self.empty_like(len - at)?;

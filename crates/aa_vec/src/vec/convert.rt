@@ -5,6 +5,7 @@ ghost use Rattle.aa_vec.specs.Boxes.{all_remaining};
 ghost use Rattle.aa_vec.specs.Vector.{vector_in};
 
 use crate::vec::{IntoIter, Vec};
+use aa_raw::counter::Counter;
 use aa_raw::raw_vec::RawVec;
 use std::alloc::Allocator;
 
@@ -18,7 +19,12 @@ impl<T, A: Allocator> Vec<T, A> {
     pub fn into_iter(self) -> IntoIter<T, A>
         ensures { result ≡ all_remaining self }
     {
-        let Vec { block, len } = self;
+        let Vec {
+            block,
+            len,
+            apart: _apart,
+            settled: _settled,
+        } = self;
         IntoIter::from_block(block, len)
     }
 
@@ -29,7 +35,12 @@ impl<T, A: Allocator> Vec<T, A> {
         ensures filled { IsRun result.0.places 0 result.1 }
         ensures same { vector_in result.0 result.1 ≡ self }
     {
-        let Self { block, len } = self;
+        let Self {
+            block,
+            len,
+            apart: _apart,
+            settled: _settled,
+        } = self;
         (block, len)
     }
 
@@ -37,11 +48,20 @@ impl<T, A: Allocator> Vec<T, A> {
     ///
     /// Does not allocate. The values in the other places are not dropped with the vector.
     /// Corresponds to allocator-api2's `from_raw_parts_in`.
+    #[tactic(auto, using(crate::proofs::Tidy::few_at_end))]
     pub fn from_block(block: RawVec<T, A>, len: usize) -> Self
         requires { IsRun block.places 0 len }
         ensures { result ≡ vector_in block len }
     {
-        Vec { block, len }
+        // They may hold as many values as there are places.
+        let mut apart = Counter::zero();
+        apart.add(block.capacity());
+        Vec {
+            block,
+            len,
+            apart,
+            settled: Counter::zero(),
+        }
     }
 }
 

@@ -145,7 +145,7 @@ impl<T: Copy, A: Allocator> Vec<T, A> {
 
     // Appends copies of all elements of `source`, which fit.
     #[inline(always)]
-    #[tactic(auto, using(aa_raw::proofs::Calls::in_runs))]
+    #[tactic(auto, using(aa_raw::proofs::Calls::in_runs, crate::proofs::Tidy::few_at_end))]
     fn put_copies(&mut self, source: &[T])
         requires room { HasRoom self.old (length source.now) }
         ensures items { Holds self.old (self.old.items ++ source.now) self.new }

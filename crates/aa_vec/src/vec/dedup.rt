@@ -245,6 +245,7 @@ fn distinct_run<T, F: FnMut(&mut T, &mut T) -> bool>(elements: &mut [T], same: &
 
 // Calls `same` with the element after the one at the index, and with that one.
 #[inline(always)]
+#[tactic(auto, using(crate::proofs::Calling::neighbours_are, crate::proofs::Calling::neighbours_left))]
 fn call_on_neighbours<T, F: FnMut(&mut T, &mut T) -> bool>(
     same: &mut F,
     elements: &mut [T],

@@ -18,7 +18,7 @@ impl<T, A: Allocator> Vec<T, A> {
     /// # Errors
     /// If the vector is full, `value` is returned in the error. The vector is unchanged.
     #[inline]
-    #[tactic(auto, using(aa_raw::proofs::Calls::at_ends, crate::proofs::Becoming::becomes))]
+    #[tactic(auto, using(aa_raw::proofs::Calls::at_ends, crate::proofs::Becoming::becomes, crate::proofs::Tidy::few_at_end))]
     pub fn push_within_capacity(&mut self, value: T) -> Result<(), T>
         ensures fits { OnOk result (len self.old < self.old.capacity) }
         ensures pushed { OnOk result
@@ -120,7 +120,7 @@ impl<T, A: Allocator> Vec<T, A> {
     ///
     /// Does nothing if there are no more than `len`. Does not allocate, and does not change the
     /// capacity.
-    #[tactic(auto, using(aa_raw::proofs::Calls::in_runs, crate::proofs::Becoming::becomes))]
+    #[tactic(auto, using(aa_raw::proofs::Calls::in_runs, crate::proofs::Becoming::becomes, crate::proofs::Tidy::few_at_end))]
     pub fn truncate(&mut self, len: usize)
     where
         T: Drop,

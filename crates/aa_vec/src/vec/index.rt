@@ -34,7 +34,7 @@ impl<T, A: Allocator> Vec<T, A> {
     }
 
     // Returns a mutable reference to the element at `index`.
-    #[tactic(auto, using(aa_raw::proofs::Positions::at_positions))]
+    #[tactic(auto, using(aa_raw::proofs::Positions::at_positions, crate::proofs::Tidy::few_at_end))]
     fn item_mut(&mut self, index: usize) -> &mut T
         requires { index < length self.old.items }
         ensures* writes_back { sem 𝓛 (lends_item T.row A.row A.Allocator self.entry index result) }

@@ -10,6 +10,7 @@ ghost use Rattle.aa_vec.specs.Copies.{ClonesAreEqual, IsMade, IsMadeOf, IsMadeOf
 
 use crate::vec::Vec;
 use aa_raw::collections::{TryReserveError, TryReserveErrorKind};
+use aa_raw::counter::Counter;
 use aa_raw::raw_vec::{Growth, RawVec};
 use std::alloc::{AllocError, Allocator, Global};
 
@@ -178,7 +179,7 @@ impl<T, A: Allocator> Vec<T, A> {
 
 // Returns an empty vector with capacity for `capacity` elements, over a clone of the allocator,
 // with the policy `growth`.
-#[tactic(auto, using(aa_raw::proofs::Calls::with_room))]
+#[tactic(auto, using(aa_raw::proofs::Calls::with_room, crate::proofs::Tidy::few_at_end))]
 pub(crate) fn empty_over<T, A: Allocator + Clone>(
     alloc: &A,
     growth: Growth,
@@ -190,7 +191,12 @@ pub(crate) fn empty_over<T, A: Allocator + Clone>(
         (ClonesFail (A.is_infallible alloc.now) capacity (type_size T.row)) }
 {
     let block = block_over(alloc, growth, capacity)?;
-    Ok(Vec { block, len: 0 })
+    Ok(Vec {
+        block,
+        len: 0,
+        apart: Counter::zero(),
+        settled: Counter::zero(),
+    })
 }
 
 // Returns a block of `capacity` empty places over a clone of the allocator, with the policy

@@ -8,7 +8,7 @@ use std::alloc::Allocator;
 impl<T, A: Allocator> Vec<T, A> {
     // Appends `value` to a vector that is not full.
     #[inline]
-    #[tactic(auto, using(aa_raw::proofs::Calls::at_ends, crate::proofs::Becoming::becomes))]
+    #[tactic(auto, using(aa_raw::proofs::Calls::at_ends, crate::proofs::Becoming::becomes, crate::proofs::Tidy::few_at_end))]
     pub(crate) fn put_next(&mut self, value: T)
         requires room { len self.old < self.old.capacity }
         ensures put { Becomes self.old (self.old.items ++ value ∷ []) 1 1 self.new }

@@ -18,6 +18,7 @@ impl<T, A: Allocator> Vec<T, A> {
     /// # Errors
     /// Returns `CapacityOverflow`, always if the new length would exceed `usize::MAX`; or
     /// `AllocError` with the requested capacity. The vector is unchanged.
+    #[tactic(auto, using(aa_raw::proofs::Calls::with_room, crate::proofs::Becoming::same_fields, crate::proofs::Tidy::reserved_whole))]
     pub fn try_reserve(&mut self, additional: usize) -> Result<(), TryReserveError>
         ensures fits { HasRoom self.old additional → IsOk result }
         ensures reserved { let n = length self.old.items in
@@ -36,6 +37,7 @@ impl<T, A: Allocator> Vec<T, A> {
     /// # Errors
     /// Returns `CapacityOverflow`, always if the new length would exceed `usize::MAX`; or
     /// `AllocError` with the new length. The vector is unchanged.
+    #[tactic(auto, using(aa_raw::proofs::Calls::with_room, crate::proofs::Becoming::same_fields, crate::proofs::Tidy::reserved_whole))]
     pub fn try_reserve_exact(&mut self, additional: usize) -> Result<(), TryReserveError>
         ensures fits { HasRoom self.old additional → IsOk result }
         ensures reserved { let n = length self.old.items in
@@ -89,6 +91,7 @@ impl<T, A: Allocator> Vec<T, A> {
     /// # Errors
     /// Returns `AllocError` with the requested capacity. The vector is unchanged. The original
     /// aborts instead.
+    #[tactic(auto, using(aa_raw::proofs::Calls::with_room, crate::proofs::Becoming::same_fields, crate::proofs::Tidy::few_at_end))]
     pub fn shrink_to(&mut self, capacity: usize) -> Result<(), TryReserveError>
         ensures shrunk { let n = max (length self.old.items) capacity in
             let less = with_less (type_size T.row) self.old n in

@@ -10,12 +10,14 @@ const _: () = prove!(size_of::<BoxedSlice<u64, Global>>() == 24);
 
 // Whether a slice has these elements, and fives once it is filled with them; and the capacity and
 // the length of its block.
+#[tactic(auto, using(aa_raw::proofs::Beyond::emptied))]
 fn looked_at(mut list: BoxedSlice<u32>) -> (bool, bool, usize, usize) {
     let made = has(&list, &[1, 2, 3]);
     list.as_mut_slice().fill(5);
     let filled = has(&list, &[5, 5, 5]);
     let _alloc: &Global = list.allocator();
-    let (block, len) = list.into_block();
+    let (mut block, len) = list.into_block();
+    block.drop_run(0, len);
     (made, filled, block.capacity(), len)
 }
 

@@ -88,12 +88,14 @@ fn the_whole_text_is_read(rt: HostRuntime) -> Result<(), Fail> {
 }
 
 #[test]
+#[tactic(auto, using(aa_raw::proofs::Beyond::emptied))]
 fn a_text_is_taken_apart(rt: HostRuntime) {
     let mut text: GapBuffer<u32> = GapBuffer::new_in(rt.alloc());
     assert!(rt; text.insert(5).is_ok());
-    let (block, before, after) = text.into_parts();
+    let (mut block, before, after) = text.into_parts();
     assert!(rt; (before, after) == (1, 0));
-    assert!(rt; *block.place(0) == 5);
+    assert!(rt; block.take(0) == 5);
+    block.forget_from(0);
 }
 
 #[test]

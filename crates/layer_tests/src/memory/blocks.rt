@@ -9,17 +9,19 @@ use test_allocators::counted::Counted;
 
 type Block<'a> = RawVec<Counted<'a>, &'a Faulty<Global>>;
 
-// Drops two of three values, and then the block: how many values were dropped before that.
+// Drops two of three values, forgets the third, and drops the block. Returns how many values were
+// dropped before that.
 #[tactic(auto, unfolding(aa_raw::specs::Places::with_run))]
 fn two_dropped<'a>(heap: &'a Faulty<Global>, drops: &'a Cell<u32>) -> Result<u32, TryReserveError> {
     let mut block: Block<'a> = RawVec::with_capacity_in(3, heap)?;
     let one = |value| Counted { value, drops };
     block.put_array(0, [one(0), one(1), one(2)]);
     block.drop_run(0, 2);
+    block.forget_run(2, 1);
     Ok(drops.get())
 }
 
-// The block drops nothing of what is still in its places.
+// A value that was forgotten is not dropped with the block.
 #[test]
 fn a_run_is_dropped_and_a_block_freed(rt: HostRuntime) {
     let heap = Faulty::new(rt.alloc());

@@ -1,5 +1,7 @@
 //! What no clause says of a block: sizes, the tables of capacities, and each public call once.
-ghost use Rattle.std.specs.Prelude.{◌≡◌, [], ◌∷◌, Some, None, IfOk};
+#![tactic(auto, using(aa_raw::proofs::Beyond::emptied))]
+
+ghost use Rattle.std.specs.Prelude.{◌≡◌, [], ◌∷◌, Some, None, IfOk, OnOk};
 
 use crate::memory::has_due_requests;
 use crate::raw::outcome_of;
@@ -28,7 +30,7 @@ fn places_are_put_and_taken(rt: HostRuntime) -> Result<(), Fail> {
     let _alloc: &Global = block.allocator();
     block.put(1, 12);
     assert!(rt; *block.place(1) == 12);
-    assert!(rt; block.take(1) == 12);
+    assert!(rt; block.take(1) == 12 && block.take(0) == 10);
     Ok(())
 }
 
@@ -39,16 +41,28 @@ fn places_are_written_to(rt: HostRuntime) -> Result<(), Fail> {
     *block.place_mut(1) = 13;
     block.slice_mut(0, 2)[0] = 9;
     assert!(rt; block.slice(0, 2) == [9, 13].as_slice());
+    block.drop_run(0, 2);
     Ok(())
+}
+
+// Grows a block with two values, and cuts it to these. Returns its capacity between.
+fn grown_and_cut(block: &mut RawVec<u32>) -> Result<usize, TryReserveError>
+    requires { block.old.places ≡ Some 10 ∷ Some 11 ∷ None ∷ [] }
+    ensures { OnOk result (block.new.places ≡ Some 10 ∷ Some 11 ∷ []) }
+{
+    block.reserve(2, 2)?;
+    let grown = block.capacity();
+    block.shrink_to_fit(2, 2)?;
+    Ok(grown)
 }
 
 #[test]
 fn values_are_kept_when_a_block_grows_or_shrinks(rt: HostRuntime) -> Result<(), Fail> {
     let mut block = two_of_three(rt.alloc())?;
-    block.reserve(2, 2)?;
-    assert!(rt; block.capacity() == 6);
-    block.shrink_to_fit(2, 2)?;
-    assert!(rt; block.slice(0, 2) == [10, 11].as_slice());
+    let grown = grown_and_cut(&mut block);
+    let kept = grown.is_ok() && block.slice(0, 2) == [10, 11].as_slice();
+    block.forget_from(0);
+    assert!(rt; grown == Ok(6) && kept);
     Ok(())
 }
 
@@ -92,6 +106,7 @@ fn has_capacities<T>(
         all = all && is_so(came, block.capacity(), *capacity);
         all = all && has_due_requests(heap, requests, places, block.capacity());
     }
+    block.forget_from(0);
     all
 }
 
@@ -166,7 +181,7 @@ fn a_block_has_the_capacity_requested(rt: HostRuntime) {
 }
 
 #[test]
-#[tactic(auto, using(aa_raw::proofs::Calls::at_ends))]
+#[tactic(auto, using(aa_raw::proofs::Calls::at_ends, aa_raw::proofs::Beyond::emptied))]
 fn zsts_do_not_allocate(rt: HostRuntime) {
     let mut block: RawVec<()> = RawVec::new(rt.alloc());
     block.put(5, ());
@@ -176,6 +191,7 @@ fn zsts_do_not_allocate(rt: HostRuntime) {
     let failed = block.try_reserve(1, usize::MAX);
     assert!(rt; failed == Err(TryReserveErrorKind::CapacityOverflow.into()));
     assert!(rt; block.capacity() == usize::MAX);
+    block.forget_from(0);
 }
 
 #[test]

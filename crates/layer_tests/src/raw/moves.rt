@@ -66,17 +66,19 @@ fn values_move_within_a_block(rt: HostRuntime) -> Result<(), Fail> {
     block.move_down(2, 1, 3);
     block.move_one(3, 0);
     assert!(rt; block.slice(0, 3) == [12, 10, 11].as_slice());
+    block.drop_run(0, 3);
     Ok(())
 }
 
 #[test]
 fn values_move_to_another_block(rt: HostRuntime) -> Result<(), Fail> {
-    let mut from = row(rt.alloc(), 10, 11, 12)?;
     let mut to: RawVec<u32, Global> = RawVec::with_capacity_in(4, rt.alloc())?;
+    let mut from = row(rt.alloc(), 10, 11, 12)?;
     to.put(0, 9);
     to.transfer(1, &mut from, 1, 2);
     assert!(rt; to.slice(0, 3) == [9, 11, 12].as_slice());
-    assert!(rt; *from.place(0) == 10);
+    assert!(rt; from.take(0) == 10);
+    to.drop_run(0, 3);
     Ok(())
 }
 
@@ -86,7 +88,7 @@ fn arrays_are_put_and_taken(rt: HostRuntime) -> Result<(), Fail> {
     block.put_array(0, [1, 2, 3]);
     let two: [u16; 2] = block.take_array();
     assert!(rt; two == [1, 2]);
-    assert!(rt; *block.place(2) == 3);
+    assert!(rt; block.take(2) == 3);
     Ok(())
 }
 
@@ -95,6 +97,7 @@ fn copies_are_put(rt: HostRuntime) -> Result<(), Fail> {
     let mut block: RawVec<u16, Global> = RawVec::with_capacity_in(12, rt.alloc())?;
     block.put_copies(2, &[0, 1, 2, 3, 4, 5, 6, 7, 8, 9]);
     assert!(rt; block.slice(8, 4) == [6, 7, 8, 9].as_slice());
+    block.drop_run(2, 10);
     Ok(())
 }
 
@@ -109,5 +112,6 @@ fn two_places_are_borrowed_at_once(rt: HostRuntime) -> Result<(), Fail> {
     let mut block = row(rt.alloc(), 10, 11, 12)?;
     let half = block.pair_with(2, 0, &mut one_more);
     assert!(rt; half == 5 && block.slice(0, 3) == [10, 11, 11].as_slice());
+    block.drop_run(0, 3);
     Ok(())
 }

@@ -2,9 +2,7 @@
 use crate::memory::is_all_freed;
 use aa_raw::raw_box::RawBox;
 use std::alloc::Global;
-use std::cell::Cell;
 use test_allocators::Faulty;
-use test_allocators::counted::Counted;
 
 // Puts one value into a new place, and another over it. Returns whether each was there.
 fn holds_in_turn<T: PartialEq + Copy>(heap: &Faulty<Global>, x: T, y: T) -> bool {
@@ -15,7 +13,8 @@ fn holds_in_turn<T: PartialEq + Copy>(heap: &Faulty<Global>, x: T, y: T) -> bool
     place.put(x);
     let is_first = *place.get() == x;
     *place.get_mut() = y;
-    is_first && place.take() == y
+    let is_second = place.take() == y;
+    is_first && is_second
 }
 
 #[test]
@@ -28,17 +27,17 @@ fn a_place_holds_one_value(rt: HostRuntime) {
 
 // Puts a value into a new place, and takes it from the block that the place becomes. Returns the
 // capacity of the block, or 0 if the value was not there.
+#[tactic(auto, using(aa_raw::proofs::Beyond::emptied))]
 fn capacity_as_block<T: PartialEq + Copy>(heap: &Faulty<Global>, x: T) -> usize {
     let Ok(mut place) = RawBox::allocate_in(heap) else {
         return 0;
     };
     place.put(x);
     let mut block = place.into_raw_vec();
-    if block.take(0) == x {
-        block.capacity()
-    } else {
-        0
-    }
+    let is_there = block.take(0) == x;
+    let capacity = block.capacity();
+    block.forget_from(0);
+    if is_there { capacity } else { 0 }
 }
 
 #[test]
@@ -47,25 +46,4 @@ fn a_place_becomes_a_block(rt: HostRuntime) {
     assert!(rt; capacity_as_block(&heap, 7u64) == 1 && heap.requests() == 1);
     assert!(rt; capacity_as_block(&heap, ()) == usize::MAX && heap.requests() == 1);
     assert!(rt; is_all_freed(&heap));
-}
-
-// Drops a place with a value in it. Returns how many values that drops.
-fn dropped_with_place(heap: &Faulty<Global>) -> Option<u32> {
-    let drops = Cell::new(0);
-    let Ok(mut place) = RawBox::allocate_in(heap) else {
-        return None;
-    };
-    place.put(Counted {
-        value: 1,
-        drops: &drops,
-    });
-    drop(place);
-    Some(drops.get())
-}
-
-#[test]
-fn a_dropped_place_drops_no_value(rt: HostRuntime) {
-    let heap = Faulty::new(rt.alloc());
-    assert!(rt; dropped_with_place(&heap) == Some(0));
-    assert!(rt; heap.requests() == 1 && is_all_freed(&heap));
 }

@@ -22,10 +22,13 @@ fn around<'a>(heap: &'a Faulty<Global>) -> Result<Block<'a>, TryReserveError>
     Ok(block)
 }
 
-// Reserves capacity in such a block, in line or at the ends, and drops it. Returns the capacity
-// then.
-fn room_of(mut block: Block<'_>, in_line: bool, additional: usize) -> Result<usize, TryReserveError>
-    requires { block.places ≡ Some 12 ∷ Some 13 ∷ None ∷ Some 10 ∷ Some 11 ∷ [] }
+// Reserves capacity in such a block, in line or at the ends. Returns the capacity then.
+fn reserved(
+    block: &mut Block<'_>,
+    in_line: bool,
+    additional: usize,
+) -> Result<usize, TryReserveError>
+    requires { block.old.places ≡ Some 12 ∷ Some 13 ∷ None ∷ Some 10 ∷ Some 11 ∷ [] }
 {
     if in_line {
         block.try_reserve_joined((3, 2), (0, 2), additional)?;
@@ -36,6 +39,16 @@ fn room_of(mut block: Block<'_>, in_line: bool, additional: usize) -> Result<usi
         block.try_reserve_parted((0, 2), (3, 2), additional)?;
     }
     Ok(block.capacity())
+}
+
+// The same, of a block whose values are then forgotten, and which is dropped.
+#[tactic(auto, using(aa_raw::proofs::Beyond::emptied))]
+fn room_of(mut block: Block<'_>, in_line: bool, additional: usize) -> Result<usize, TryReserveError>
+    requires { block.places ≡ Some 12 ∷ Some 13 ∷ None ∷ Some 10 ∷ Some 11 ∷ [] }
+{
+    let room = reserved(&mut block, in_line, additional);
+    block.forget_from(0);
+    room
 }
 
 // In line or at the ends, how many more, how many requests fail, whether the call succeeds, and the

@@ -1,7 +1,6 @@
 -- The first values of a row are moved to the first places of another by one copy of memory. Assumes `Logic`.
-use Rattle.aa_raw.proofs.{ !, Array, El, Goes-blank, Goes-dropped, IsRun, List, None, Place, R, Rw, Some, Spot, SpotsFrom, Stays, T, Val, Vals, Valss, WT, WpFn, [], after, agg, alloc_all, and_then, ap, args, arith, array_apart, at_ret, await, block_ptr, blocks, calls_at_last, cells, cut_spots, done, drop as drop_l, el_x, elτ, ends_at, enter, env, exec, fact, feq_i, first, fjoin, fld, flft, fpack, framed, free_all, froom, fsplit3, ftrue, full_share, get, get_in, given, has_ty, heard, inst_fn, join, join_spots, keep, lands_last, later, learn, length, length-append, length-drop, length-map, length-replicate, length-take, look_at, map, mem, move, no, no_more, nothing, of_opd, owns, pair_val, part_at, pass_all, plain, prop, proved_at, qed, raw, refl, regoal, replicate, returns, rewrite, room_of_row, row_had, row_made, row_of_room, says_two, sets, split, split3, start, stay_dropped, stop, sub, subst, suffices, sym, sz, tables, take, take-append-drop, times_below, tuple_type, ty_array, ty_unit, types_at, uint_vals, use1, use2, usize, values_in, values_of, values_out, vunit, w64, walk_of, whole, whole_array, whole_in, whole_out, within, word, yes, ‵, ℕ, ◌$◌, ◌*◌, ◌++◌, ◌+◌, ◌^◌, ◌∙◌, ◌∵◌, ◌∷◌, ◌≡◌, ◌≤◌, ◌⊑◌, ◌⊛◌}
+use Rattle.aa_raw.proofs.{ !, Array, El, Goes-blank, Goes-dropped, IsRun, List, None, Place, R, Rw, Some, Spot, SpotsFrom, Stays, T, Val, Vals, Valss, WT, WpFn, [], after, agg, alloc_all, and_then, ap, args, arith, array_apart, at_ret, await, block_ptr, blocks, calls_at_last, cells, cut_spots, done, drop as drop_l, el_x, elτ, ends_at, enter, env, exec, fact, feq_i, first, fjoin, fld, flft, fpack, framed, free_all, froom, fsplit3, ftrue, full_share, get, get_in, given, has_ty, heard, inst_fn, join, join_spots, keep, lands_last, later, learn, length, length-append, length-drop, length-map, length-replicate, length-take, look_at, map, mem, move, no, no_more, nothing, of_opd, owns, pair_val, part_at, pass_all, plain, prop, proved_at, qed, raw, refl, regoal, replicate, returns, rewrite, room_of_row, row_had, row_made, row_of_room, says_two, sets, split, split3, start, stay_dropped, stop, sub, subst, suffices, sym, sz, tables, take, take-append-drop, times_below, tuple_type, ty_array, ty_unit, types_at, uint_vals, use1, use2, use3, usize, values_in, values_of, values_out, vunit, w64, walk_of, whole, whole_array, whole_in, whole_out, within, word, yes, ‵, ℕ, ◌$◌, ◌*◌, ◌++◌, ◌+◌, ◌^◌, ◌∙◌, ◌∵◌, ◌∷◌, ◌≡◌, ◌≤◌, ◌⊑◌, ◌⊛◌}
 use denote.Index.{row}
-use types.Kit.{use3}
 use denote.Struct.Declared as Declared
 use Rattle.core.proofs.alloc.Moves.{Copies, Copies-gives, Copies-goes, at_copies}
 use Rattle.core.proofs.ptr.copy_nonoverlapping.Met as callee
@@ -21,7 +20,7 @@ copy_apart_spec 𝓤 𝓛 𝓜 𝓡 wired X LX =
     let Fits : Type 0 = n ≤ length d.places in let There : Type 0 = IsRun r.places 0 n in
     qed 𝓛 (((‵ (flft κs.0 qs.0) ⊛ ‵ ftrue) ⊛ ‵ (owns (types_at (f.ended X).signature.params κs) a us)) ∷ (raw (fact 𝓤 (κs.0 ⊑ X.lives)) ⊛ raw (fact 𝓤 Fits) ⊛ raw (fact 𝓤 There)) ∷ []) ∵
     move ! (1 ∷ []) $ split ! $ heard ! (κs.0 ⊑ X.lives) (λ lives. split ! $ heard ! Fits (λ fits. heard ! There (λ there.
-    split ! $ split ! $ move ! (2 ∷ []) $ fsplit3 ! $ row_had E ! d us.0 (λ b o lies spelt small. keep ! (1 ∷ 0 ∷ 3 ∷ []) $ row_had E ! r us.1.0 (λ rb ro lies' spelt' small'.
+    split ! $ split ! $ move ! (2 ∷ []) $ fsplit3 ! $ row_had (R E) ! d us.0 (λ b o lies spelt small. keep ! (1 ∷ 0 ∷ 3 ∷ []) $ row_had (R E) ! r us.1.0 (λ rb ro lies' spelt' small'.
     -- [the places of the source; of the row; the token]
     let vss : Vals (f.ended X).signature κs = (word b o ∷ [], (word rb ro ∷ [], (uint_vals w64 n, tt))) in let y = spelled vss in
     let old = take n d.places in let rest = drop_l n d.places in let front = take n r.places in let back = drop_l n r.places in
@@ -54,12 +53,12 @@ copy_apart_spec 𝓤 𝓛 𝓜 𝓡 wired X LX =
     use1 𝓛 (‵ (SpotsFrom E 𝓛 b o 0 (map Some xs))) (values_in E 𝓛 b o xs 0) $ rewrite ! 0 (λ (cs : List (Place E)). ‵ (SpotsFrom E 𝓛 b o 0 cs)) (sym it.1) refl $
     move ! (0 ∷ 3 ∷ []) $ use2 𝓛 (‵ (SpotsFrom E 𝓛 b o 0 (front ++ rest))) (join_spots 𝓛 (Spot E 𝓛 b o) front rest 0 n (omega (arith, many'))) $
     let d' : (Rw E).Denot = record { ptr = block_ptr b o; places = front ++ rest } in let long : length (front ++ rest) ≤ length d.places = omega (arith, length-append front rest, many', length-drop n d.places) in
-    row_made E ! d' b o refl (times_below (length (front ++ rest)) (length d.places) (sz E) (2 ^ 63) long small) $ move ! (1 ∷ 3 ∷ []) $
+    row_made (R E) ! d' b o refl (times_below (length (front ++ rest)) (length d.places) (sz E) (2 ^ 63) long small) $ move ! (1 ∷ 3 ∷ []) $
     use1 𝓛 (‵ (SpotsFrom E 𝓛 rb ro 0 (replicate n None))) (row_of_room E 𝓛 rb ro n) $
     let none : List (Place E) = replicate n None in let r' : (Rw E).Denot = record { ptr = block_ptr rb ro; places = none ++ back } in
     use2 𝓛 (‵ (SpotsFrom E 𝓛 rb ro 0 (none ++ back))) (join_spots 𝓛 (Spot E 𝓛 rb ro) none back 0 n (omega (arith, length-replicate {A = Place E} n None))) $
     let long' : length (none ++ back) ≤ length r.places = omega (arith, length-append none back, length-replicate {A = Place E} n None, length-drop n r.places, there.0) in
-    row_made E ! r' rb ro refl (times_below (length (none ++ back)) (length r.places) (sz E) (2 ^ 63) long' small') $
+    row_made (R E) ! r' rb ro refl (times_below (length (none ++ back)) (length r.places) (sz E) (2 ^ 63) long' small') $
     -- [the source; the row; the token]
     let pair : Val = pair_val (word b o) (word rb ro) in
     nothing ! $ move ! (1 ∷ 0 ∷ []) $ fjoin ! $ move ! (1 ∷ 0 ∷ []) $ fjoin ! $ feq_i ! (List Val) (pair ∷ []) (pair ∷ []) refl $ fjoin ! $

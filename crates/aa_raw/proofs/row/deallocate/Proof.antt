@@ -1,5 +1,5 @@
 -- The memory of a row is deallocated by its allocator. Assumes `Logic`.
-use Rattle.aa_raw.proofs.{ !, Al, Cl, El, Gives, Gives-Gives, Gives-goes, Goes-blank, Goes-dropped, Incl-trans, Ptr, RefOf, Right, Rw, Stays, T as So, Val, Vals, WT, WpFn, [], after, align, align_word, alloc_all, and_then, ap, arith, as_raw, at_gives, at_ret, await, bin, block_align, block_args as args, block_ptr, block_size, block_ty, blocks, by, calls_at_last, capped, capped_fits, claim_had, done, elτ, ends_at, ent, enter, env, exec, fact, feq_i, first, fjoin, fld, flft, framed, free_all, froom, fsplit, fsplit3, ftrue, get, get_in, given, group, has_ty, heard, hidden_shr, inst_fn, is, join, keep, lands_last, later, learn, length, look_at, lose as drop, mark, move, no, no_more, nothing, of_opd, owns, param, pass_all, plain, proved_at, qed, raw, refl, returns, rewrite, right_had, room_of_row, row_had, sets, shr_vals, size_word, split, stay_dropped, stop, sub, subst, suffices, sym, sz, tables, tables_of, token, ty_array, ty_unit, types_at, uint_vals, uncapped, unit_lit, use1, usize, vint, vunit, w64, walk_of, way_fits, whole, word, yes, ‵, ℕ, ⋆, ◌$◌, ◌*◌, ◌<◌, ◌^◌, ◌∙◌, ◌∵◌, ◌∷◌, ◌≡◌, ◌⊑◌, ◌⊛◌}
+use Rattle.aa_raw.proofs.{ !, Al, Cl, El, Gives, Gives-Gives, Gives-goes, Goes-blank, Goes-dropped, Incl-trans, Ptr, R, RefOf, Right, Rw, Stays, T as So, Val, Vals, WT, WpFn, [], after, align, align_word, alloc_all, and_then, ap, arith, as_raw, at_gives, at_ret, await, bin, block_align, block_args as args, block_ptr, block_size, block_ty, blocks, by, calls_at_last, capped, capped_fits, claim_had, done, elτ, ends_at, ent, enter, env, exec, fact, feq_i, first, fjoin, fld, flft, framed, free_all, froom, fsplit, fsplit3, ftrue, get, get_in, given, group, has_ty, heard, hidden_shr, inst_fn, is, join, keep, lands_last, later, learn, length, look_at, lose as drop, mark, move, no, no_more, nothing, of_opd, owns, param, pass_all, plain, proved_at, qed, raw, refl, returns, rewrite, right_had, room_of_row, row_had, sets, shr_vals, size_word, split, stay_dropped, stop, sub, subst, suffices, sym, sz, tables, tables_of, token, ty_array, ty_unit, types_at, uint_vals, uncapped, unit_lit, use1, usize, vint, vunit, w64, walk_of, way_fits, whole, word, yes, ‵, ℕ, ⋆, ◌$◌, ◌*◌, ◌<◌, ◌^◌, ◌∙◌, ◌∵◌, ◌∷◌, ◌≡◌, ◌⊑◌, ◌⊛◌}
 use Rattle.aa_raw.specs.contracts.row.deallocate as f
 use Rattle.aa_raw.proofs.row.deallocate.Code as code
 
@@ -25,7 +25,7 @@ deallocate_spec 𝓤 𝓛 𝓜 𝓡 wired X W LX LW g dict dd met md =
     qed 𝓛 (((‵ (flft κ q) ⊛ ‵ (flft κs.1.0 qs.1.0) ⊛ ‵ (flft κs.1.1.0 qs.1.1.0) ⊛ ‵ ftrue) ⊛ ‵ (owns (types_at T.signature.params κs) a us))
     ∷ (raw (fact 𝓤 (κs.1.0 ⊑ X.lives)) ⊛ raw (fact 𝓤 (κs.1.1.0 ⊑ W.lives)) ⊛ raw (fact 𝓤 Ok)) ∷ []) ∵
     move ! (1 ∷ []) $ split ! $ drop ! $ split ! $ heard ! (κs.1.1.0 ⊑ W.lives) (λ lives. heard ! Ok (λ ok.
-    split ! $ split ! $ move ! (2 ∷ []) $ fsplit3 ! $ fsplit ! $ drop ! $ move ! (2 ∷ []) $ fsplit ! $ row_had E ! row us.1.1.0 (λ b o lies spelt small. move ! (1 ∷ []) $ fsplit ! $ claim_had E Z ! claim us.1.1.1.0 (λ marked.
+    split ! $ split ! $ move ! (2 ∷ []) $ fsplit3 ! $ fsplit ! $ drop ! $ move ! (2 ∷ []) $ fsplit ! $ row_had (R E) ! row us.1.1.0 (λ b o lies spelt small. move ! (1 ∷ []) $ fsplit ! $ claim_had E Z ! claim us.1.1.1.0 (λ marked.
     rewrite ! 0 (λ (z : W.Denot × Ptr × ℕ). ‵ (Right E Z z.0 z.1 z.2)) (λ k. (ok.3 k, (ok.1 ∙ lies) k, ok.2 k)) refl $
     use1 𝓛 (‵ (token Z h (B n) (block_ptr b o))) (right_had E 𝓛 (token Z h) (block_ptr b o) n (n * s) ok.4) $ move ! (2 ∷ 0 ∷ 3 ∷ 5 ∷ 6 ∷ []) $
     use1 𝓛 (‵ (froom (ty_array (elτ E) (length row.places)) b o)) (room_of_row E 𝓛 b o row.places) $ rewrite ! 0 (λ (k : ℕ). ‵ (froom (ty_array (elτ E) k) b o)) ok.0 refl $ as_raw ! (ty_array (elτ E) n) b o $

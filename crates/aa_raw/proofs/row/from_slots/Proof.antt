@@ -1,14 +1,11 @@
 -- Slots that all hold their values are the places of a row. Assumes `Logic`.
-use Rattle.aa_raw.proofs.{ !, Bool, El, Goes-dropped, Into, Into-gives, Into-goes, ItemIn, List, MemEl as Item, R, Row, Rw, Some, SpotsFrom, Stays, Vals, WT, WpFn, [], after, agg, all, alloc_all, and_then, args, arith, at_into, at_ret, await, block_ptr, blocks, calls_at_last, cells, done, ends_at, enter, env, exec, fact, first, fjoin, fld, flft, framed, free_all, fsplit, ftrue, get, get_in, given, heard, inst_fn, is, join, keep, lands_last, later, learn, length, length-map, look_at, map, mem, move, no, no_al, no_more, nothing, of_opd, owns, parts_typed, pass_all, plain, prop, proved_at, qed, raw, refl, regoal, returns, rewrite, row_made, row_val, says, sets, slots_counts, slots_filled, slots_full as IsFull, slots_had, slots_items, slots_len, slots_made, split, start, stay_dropped, stop, sub, subst, suffices, sym, sz, tables, to_row, types_at, use1, use2, values_in, via, walk_of, whole, whole_in, word, ‵, ℕ, ◌$◌, ◌*◌, ◌<◌, ◌^◌, ◌∙◌, ◌∵◌, ◌∷◌, ◌≡◌, ◌⊑◌, ◌⊛◌}
+use Rattle.aa_raw.proofs.{ !, Bool, El, Goes-dropped, Into, Into-gives, Into-goes, ItemIn, List, MemEl as Item, R, Row, Rw, Some, SpotsFrom, Stays, Vals, WT, WpFn, [], after, agg, all, alloc_all, and_then, args, arith, at_into, at_ret, await, block_ptr, blocks, calls_at_last, cells, done, ends_at, enter, env, exec, fact, first, fjoin, fld, flft, framed, free_all, fsplit, ftrue, get, get_in, given, heard, held, inst_fn, is, join, keep, lands_last, later, learn, length, length-map, look_at, map, mem, move, no, no_al, no_more, nothing, of_opd, owns, parts_typed, pass_all, plain, prop, proved_at, qed, raw, refl, regoal, returns, rewrite, row_made, row_val, says, sets, slots_counts, slots_filled, slots_full as IsFull, slots_had, slots_items, slots_len, slots_made, split, start, stay_dropped, stop, sub, subst, suffices, sym, sz, tables, to_row, types_at, use1, use2, values_in, via, walk_of, whole, whole_in, word, ‵, ℕ, ◌$◌, ◌*◌, ◌<◌, ◌^◌, ◌∙◌, ◌∵◌, ◌∷◌, ◌≡◌, ◌⊑◌, ◌⊛◌}
 use Rattle.core.proofs.slots.Slots.into_raw_parts.Met as callee
 use Rattle.aa_raw.specs.contracts.row.from_slots as f
 use Rattle.aa_raw.proofs.row.from_slots.Code as code
 
 abbrev it : El → Item
 it E = record { row = E.row; laws = E.laws }
-
-abbrev held : El → ItemIn
-held E = record { row = E.row; laws = E.laws; al = no_al }
 
 pub from_slots_spec : {M : Type 1} → Rattle.aa_raw.proofs.row.from_slots.Statement.statement M
 from_slots_spec 𝓤 𝓛 𝓜 𝓡 wired X LX =
@@ -36,7 +33,7 @@ from_slots_spec 𝓤 𝓛 𝓜 𝓡 wired X LX =
     use1 𝓛 (‵ (cells (mem (R E)) xs b o)) (via 𝓤 _ (to_row (it E) 𝓛 b xs fs o (sym flags ∙ many) (λ k h. full k (omega arith) (omega arith))) (whole_in 𝓛 (R E) xs b o)) $
     rewrite ! 0 (λ (k : ℕ). ‵ (cells (mem (R E)) xs b k)) (sym (start E 𝓛 b o)) refl $ use1 𝓛 (‵ (SpotsFrom E 𝓛 b o 0 (map Some xs))) (values_in E 𝓛 b o xs 0) $
     let d : (Rw E).Denot = record { ptr = block_ptr b o; places = map Some xs } in
-    row_made E ! d b o refl (subst (λ k. k * sz E < 2 ^ 63) (many ∙ sym (length-map xs Some)) small) $
+    row_made (R E) ! d b o refl (subst (λ k. k * sz E < 2 ^ 63) (many ∙ sym (length-map xs Some)) small) $
     returns ! (look_at ! 0 refl) $ free_all ! refl $
     suffices ! _ (ends_at 𝓛 (f.ended X) stayed c y (word b o) d (tt, tt) (tt, tt)) $ says ! (sym lies, refl) $
     nothing ! $ move ! (2 ∷ 0 ∷ []) $ join ! $ nothing ! $ nothing ! $ fjoin ! $ move ! (1 ∷ 0 ∷ 2 ∷ []) $ done !)))))))

@@ -1,11 +1,8 @@
 -- The places of a row are slots, whatever they hold. Assumes `Logic`.
-use Rattle.aa_raw.proofs.{ !, Bool, El, From, Goes-blank, Goes-dropped, ItemIn, List, Made, R, Room, Row, Rw, SliceRefOf, Stays, Vals, WT, WpFn, [], after, all, alloc_all, and_then, args, at_from, at_ret, await, blocks, calls_at_last, done, el, elτ, ends_at, enter, env, exec, fact, false, first, fjoin, fld, flft, framed, free_all, from_gives, from_goes, froom, fsplit, ftrue, get, get_in, given, heard, inst_fn, is, join, keep, lands_last, later, learn, length, length-replicate, look_at, move, no, no_al, no_more, nothing, of_opd, of_space, owns, pass_all, pick, plain, prop, proved_at, qed, raw, refl, regoal, replicate, returns, rewrite, room_of_row, row_Typed, row_had, row_val, says, sets, shr_slice_vals, some, split, stay_dropped, stop, sub, subst, suffices, sym, sz, tables, ty_array, types_at, use1, use2, walk_of, whole, word, yes, ‵, ℕ, ◌$◌, ◌*◌, ◌<◌, ◌^◌, ◌∙◌, ◌∵◌, ◌∷◌, ◌≡◌, ◌⊑◌, ◌⊛◌}
+use Rattle.aa_raw.proofs.{ !, Bool, El, From, Goes-blank, Goes-dropped, ItemIn, List, Made, R, Room, Row, Rw, SliceRefOf, Stays, Vals, WT, WpFn, [], after, all, alloc_all, and_then, args, at_from, at_ret, await, blocks, calls_at_last, done, el, elτ, ends_at, enter, env, exec, fact, false, first, fjoin, fld, flft, framed, free_all, from_gives, from_goes, froom, fsplit, ftrue, get, get_in, given, heard, held, inst_fn, is, join, keep, lands_last, later, learn, length, length-replicate, look_at, move, no, no_al, no_more, nothing, of_opd, of_space, owns, pass_all, pick, plain, prop, proved_at, qed, raw, refl, regoal, replicate, returns, rewrite, room_of_row, row_Typed, row_had, row_val, says, sets, shr_slice_vals, some, split, stay_dropped, stop, sub, subst, suffices, sym, sz, tables, ty_array, types_at, use1, use2, walk_of, whole, word, yes, ‵, ℕ, ◌$◌, ◌*◌, ◌<◌, ◌^◌, ◌∙◌, ◌∵◌, ◌∷◌, ◌≡◌, ◌⊑◌, ◌⊛◌}
 use Rattle.core.proofs.slots.Slots.from_raw_parts.Met as callee
 use Rattle.aa_raw.specs.contracts.row.into_slots as f
 use Rattle.aa_raw.proofs.row.into_slots.Code as code
-
-abbrev held : El → ItemIn
-held E = record { row = E.row; laws = E.laws; al = no_al }
 
 pub into_slots_spec : {M : Type 1} → Rattle.aa_raw.proofs.row.into_slots.Statement.statement M
 into_slots_spec 𝓤 𝓛 𝓜 𝓡 wired X LX =
@@ -20,7 +17,7 @@ into_slots_spec 𝓤 𝓛 𝓜 𝓡 wired X LX =
     let spelled : Vals (f.ended X).signature κs → W.Ghost = λ vss. ((κs, qs, z.0.2, a, vss), z.1) in
     qed 𝓛 (((‵ (flft κs.0 qs.0) ⊛ ‵ (flft κs.1.0 qs.1.0) ⊛ ‵ ftrue) ⊛ ‵ (owns (types_at (f.ended X).signature.params κs) a us)) ∷ (raw (fact 𝓤 (κs.1.0 ⊑ X.lives)) ⊛ raw (fact 𝓤 Fits)) ∷ []) ∵
     move ! (1 ∷ []) $ split ! $ heard ! (κs.1.0 ⊑ X.lives) (λ lives. heard ! Fits (λ fits.
-    split ! $ split ! $ move ! (2 ∷ []) $ fsplit ! $ row_had E ! row us.0 (λ b o lies spelt small. keep ! (0 ∷ 2 ∷ 3 ∷ []) $
+    split ! $ split ! $ move ! (2 ∷ []) $ fsplit ! $ row_had (R E) ! row us.0 (λ b o lies spelt small. keep ! (0 ∷ 2 ∷ 3 ∷ []) $
     use1 𝓛 (‵ (froom (ty_array (elτ E) (length row.places)) b o)) (room_of_row E 𝓛 b o row.places) $ rewrite ! 0 (λ (k : ℕ). ‵ (froom (ty_array (elτ E) k) b o)) fits refl $
     use1 𝓛 (‵ (all V b o xs fs)) (of_space (el V) 𝓛 b o n xs refl) $ move ! (2 ∷ []) $ split ! $ move ! (2 ∷ 0 ∷ []) $
     let vss : Vals (f.ended X).signature κs = (word b o ∷ [], (shr_slice_vals a.1.0, tt)) in let y = spelled vss in let words : WT (row_val b o n) = (tt, (record { fits = far }, tt)) in

@@ -1,11 +1,13 @@
 -- A `Vec` inside a recursive type: it has its items, and the elements in the places after them.
-use Rattle.std.specs.Prelude.{◌≡◌, ℕ, zero, suc, true, List, [], ◌∷◌, ◌++◌, map, take, drop, Option, Some, None, is_some}
-use Rattle.std.specs.List.{list_all}
+use Rattle.std.specs.Prelude.{◌≡◌, ◌≤◌, ℕ, ◌+◌, zero, suc, true, List, [], ◌∷◌, ◌++◌, map, take, drop, Option, Some, None, cond, is_some}
+use Rattle.std.specs.List.{count_by, list_all}
 use Rattle.std.specs.Option.{option_map}
 use Rattle.std.specs.List.{drop-map}
 use Rattle.std.proofs.Common.{true≢false}
-use mathlib.Core.Path.{refl, sym, ap}
+use Rattle.std.proofs.lemmas.List.Sums.{sum_by-cons}
+use mathlib.Core.Path.{refl, sym, ap, subst, ◌∙◌}
 use mathlib.Core.Former.{Former, one_more, this, const, pair, list, via, children}
+use native.Mathlib.Bridge.{le_prop}
 use lib.ListN.{length-map}
 use base.Stored.{code_map}
 use denote.RattleType.{RattleType}
@@ -30,6 +32,9 @@ use Rattle.aa_raw.specs.declared.raw_vec.Growth.{Growth}
 use Rattle.aa_raw.specs.declared.raw_vec.Growth.TheVariants.{Doubling}
 use Rattle.aa_raw.specs.formers.raw_vec.RawVec as raw
 use Rattle.aa_vec.specs.Vector.{Vector, Growths, of_new}
+use Rattle.aa_vec.specs.Tail.{count_from}
+use Rattle.aa_vec.specs.VecInner.{IsWhole}
+use Rattle.aa_raw.specs.declared.counter.Counter.{Counter}
 use Rattle.aa_vec.specs.declared.vec.Vec.TheInside.{Inside}
 use Rattle.aa_vec.specs.declared.vec.Vec.TheView.{view, invariant}
 use Rattle.aa_vec.specs.contracts.vec.Vec as C
@@ -85,7 +90,33 @@ module _ {X : Type 0} where
   front_held n cs r = parts_held n cs r.1
 
 abbrev fields : Type 0 → Former {0}
-fields Z = via (pair (raw.the_former this Z) (const ℕ)) (λ X. Inside X Z) (λ X a. (a.block, a.len)) (λ X v. record { block = v.0; len = v.1 }) (λ X a. refl) (λ X v. refl)
+fields Z = via (pair (raw.the_former this Z) (const (ℕ × (Counter × Counter)))) (λ X. Inside X Z) (λ X a. (a.block, (a.len, (a.apart, a.settled)))) (λ X v. record { block = v.0; len = v.1.0; apart = v.1.1.0; settled = v.1.1.1 }) (λ X a. refl) (λ X v. refl)
+
+abbrev one : {X : Type 0} → Option X → ℕ
+one c = cond (is_some c) 1 0
+
+module _ {X Y : Type 0} (k : X → Y) where
+  filled_over : (cs : List (Option X)) → count_by is_some (map (option_map k) cs) ≡ count_by is_some cs
+  filled_over [] = refl
+  filled_over (None ∷ cs) = filled_over cs
+  filled_over (Some x ∷ cs) = sum_by-cons one (Some (k x)) (map (option_map k) cs) ∙ ap (λ n. 1 + n) (filled_over cs) ∙ sym (sum_by-cons one (Some x) cs)
+
+  count_over : (cs : List (Option X)) (n : ℕ) → count_from (map (option_map k) cs) n ≡ count_from cs n
+  unfolding count_from
+  count_over cs n = ap (count_by is_some) (drop-map (option_map k) n cs) ∙ filled_over (drop n cs)
+
+  module _ {Z : Type 0} (v : Inside X Z) where
+    abbrev cs : List (Option X)
+    cs = v.block.places
+
+    whole_over : IsWhole v → IsWhole ((fields Z).map X Y k v)
+    whole_over w = record { filled = IsRun-over k 0 v.len cs w.filled; few = subst (λ n. n + v.settled.count ≤ v.apart.count) (sym (count_over cs v.len)) w.few }
+
+    whole_under : IsWhole ((fields Z).map X Y k v) → IsWhole v
+    whole_under w = record { filled = IsRun-under k 0 v.len cs w.filled; few = subst (λ n. n + v.settled.count ≤ v.apart.count) (count_over cs v.len) w.few }
+
+whole_once : {X Z : Type 0} (v : Inside X Z) → IsProp (IsWhole v)
+whole_once v p q = λ i. record { filled = IsRun-once 0 v.len v.block.places p.filled q.filled i; few = le_prop p.few q.few i }
 
 module _ (Z : RattleType) (G : Ghosts Z.Denot) (R S : RattleType) (h : R.Denot → S.Denot) where
   pub the_places : Alike R S h → Alike (C.the_row R Z G) (C.the_row S Z G) ((the_former this Z.Denot).map R.Denot S.Denot h)
@@ -102,11 +133,10 @@ module _ (Z : RattleType) (G : Ghosts Z.Denot) (R S : RattleType) (h : R.Denot �
       })
       (λ X u. IsRun u.block.places 0 u.len) (λ X Y k u. IsRun-under k 0 u.len u.block.places) (λ X u. front_held u.len u.block.places)
       R.Denot S.Denot h (C.the_row R Z G).coded (C.the_row S Z G).coded
-      (invariant R.Denot Z.Denot G) (invariant S.Denot Z.Denot G) (λ u. IsRun-once 0 u.len u.block.places) (λ u. IsRun-once 0 u.len u.block.places)
-      (λ u. IsRun-over h 0 u.len u.block.places) (λ u. IsRun-under h 0 u.len u.block.places) (λ u r. r)
+      (invariant R.Denot Z.Denot G) (invariant S.Denot Z.Denot G) whole_once whole_once (whole_over h) (whole_under h) (λ u w. w.filled)
       (over (I.the_row R Z G)) (over (I.the_row S Z G))
-      (struct_places (I.the_type R Z G) (I.the_type S Z G) ((raw.the_former this Z.Denot).map R.Denot S.Denot h, (λ n. n, tt)) _ (λ d. refl) refl
-      (laid _ _ _ (raw.the_places Z G R S h a), ((refl, (λ n. refl, λ n. refl)), tt)))
+      (struct_places (I.the_type R Z G) (I.the_type S Z G) ((raw.the_former this Z.Denot).map R.Denot S.Denot h, (λ n. n, (λ n. n, (λ n. n, tt)))) _ (λ d. refl) refl
+      (laid _ _ _ (raw.the_places Z G R S h a), ((refl, (λ n. refl, λ n. refl)), ((refl, (λ n. refl, λ n. refl)), ((refl, (λ n. refl, λ n. refl)), tt)))))
 
   pub the_codes_placed : Recodes R S h → Recodes (C.the_row R Z G) (C.the_row S Z G) ((the_former this Z.Denot).map R.Denot S.Denot h)
   the_codes_placed e d = pair_recoded (sym (code_map R.coded.code S.coded.code h (λ x. sym (e x)) d.items))

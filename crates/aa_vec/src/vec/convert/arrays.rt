@@ -10,6 +10,7 @@ ghost use Rattle.aa_vec.specs.Copies.{IsMade};
 ghost use Rattle.aa_vec.specs.Arrays.{flattened, LacksRoomForFlattened};
 
 use crate::vec::new::empty_over;
+use crate::vec::tail::forget_apart;
 use crate::vec::{SliceIntoVec, Vec};
 use aa_boxed::boxed::Box;
 use aa_raw::collections::{Refused, TryReserveError, TryReserveErrorKind};
@@ -68,7 +69,7 @@ impl<T, A: Allocator> Vec<T, A> {
 
     // Appends the elements of an array, which fit.
     #[inline]
-    #[tactic(auto, using(aa_raw::proofs::Calls::in_runs, crate::proofs::Becoming::becomes))]
+    #[tactic(auto, using(aa_raw::proofs::Calls::in_runs, crate::proofs::Becoming::becomes, crate::proofs::Tidy::few_at_end))]
     pub(crate) fn put_block<const N: usize>(&mut self, items: [T; N])
         requires long { length items ≡ N }
         requires room { len self.old + N ≤ self.old.capacity }
@@ -81,13 +82,20 @@ impl<T, A: Allocator> Vec<T, A> {
     }
 
     // Returns all elements as an array, and deallocates the block.
-    #[tactic(auto, using(aa_raw::proofs::Calls::in_runs, aa_raw::proofs::Calls::shown))]
+    #[tactic(auto, using(aa_raw::proofs::Calls::in_runs, aa_raw::proofs::Calls::shown, aa_raw::proofs::Beyond::emptied, crate::proofs::Tidy::few_at_end))]
     fn take_out<const N: usize>(self) -> [T; N]
         requires { len self ≡ N }
         ensures { result ≡ self.items }
     {
-        let Vec { mut block, len: _ } = self;
-        block.take_array()
+        let Vec {
+            mut block,
+            len,
+            apart,
+            settled,
+        } = self;
+        let items = block.take_array();
+        forget_apart(&mut block, len, &apart, &settled);
+        items
     }
 }
 
@@ -180,6 +188,7 @@ impl<T, A: Allocator, const N: usize> Vec<[T; N], A> {
 
     // Returns the capacity for the elements of the arrays of all places. The capacity of a block
     // without memory shows whether the elements are zero-sized.
+    #[tactic(auto, using(aa_raw::proofs::Beyond::emptied))]
     fn flat_capacity(&self) -> usize
         ensures { result ≡ new_capacity (type_size T.row) (self.now.capacity * N) }
     {
@@ -195,18 +204,24 @@ impl<T, A: Allocator, const N: usize> Vec<[T; N], A> {
 
     // Appends the elements of all arrays, in order, to a vector that has capacity for them.
     // Deallocates the old block, and returns that vector.
-    #[tactic(auto, using(aa_raw::proofs::Calls::at_ends, crate::proofs::Flattening::poured, crate::proofs::Becoming::becomes, crate::proofs::Becoming::became))]
+    #[tactic(auto, using(aa_raw::proofs::Calls::at_ends, aa_raw::proofs::Beyond::at_sides, crate::proofs::Flattening::poured, crate::proofs::Becoming::becomes, crate::proofs::Becoming::became, crate::proofs::Tidy::few_at_end))]
     fn pour_into(self, flat: Vec<T, A>) -> Vec<T, A>
         requires room { len flat + len self * N ≤ flat.capacity }
         ensures poured { let calls = len self * run_count N in
             Becomes flat (flat.items ++ flattened self.items) (len self * N) calls result }
         ensures long { length (flattened self.items) ≡ len self * N }
     {
-        let Vec { mut block, len } = self;
+        let Vec {
+            mut block,
+            len,
+            apart,
+            settled,
+        } = self;
         let mut flat = flat;
         'each: for i in 0..len {
             flat.put_block(block.take(i));
         }
+        forget_apart(&mut block, len, &apart, &settled);
         flat
     }
 }

@@ -2,12 +2,13 @@
 ghost use Rattle.std.specs.Prelude.{◌≡◌, ◌≢◌, IfOk, IfErr};
 ghost use Rattle.std.specs.Mem.{type_size};
 ghost use Rattle.aa_raw.specs.Growth.{usize_max};
-ghost use Rattle.aa_vec.specs.Vector.{len};
+ghost use Rattle.aa_vec.specs.Vector.{len, with_less};
 ghost use Rattle.aa_vec.specs.Boxes.{boxed, ReturnsVector, IsUnboxed};
 
 use crate::vec::Vec;
 use aa_boxed::boxed::BoxedSlice;
 use aa_raw::collections::Refused;
+use aa_raw::counter::Counter;
 use std::alloc::Allocator;
 
 impl<T, A: Allocator> Vec<T, A> {
@@ -22,7 +23,13 @@ impl<T, A: Allocator> Vec<T, A> {
     /// The original aborts if the allocation fails.
     #[tactic(auto, using(aa_raw::proofs::Calls::at_ends, crate::proofs::Becoming::became))]
     pub fn into_boxed_slice(self) -> Result<BoxedSlice<T, A>, Refused<Self>>
-        ensures made { IfOk result (λ b. b ≡ boxed self) }
+        ensures made { let less = with_less (type_size T.row) self (len self) in
+            IfOk result (λ b. b ≡ record {
+              items = less.items;
+              growth = less.growth;
+              grown = less.grown;
+              alloc = less.alloc;
+            }) }
         ensures failed { IfErr result (λ r. ReturnsVector (type_size T.row) self r) }
     {
         let mut vec = self;
@@ -38,7 +45,12 @@ impl<T, A: Allocator> Vec<T, A> {
         requires { len self ≢ self.capacity → self.capacity ≡ usize_max }
         ensures { result ≡ boxed self }
     {
-        let Vec { block, len } = self;
+        let Vec {
+            block,
+            len,
+            apart: _apart,
+            settled: _settled,
+        } = self;
         BoxedSlice::from_block(block, len)
     }
 }
@@ -65,10 +77,15 @@ pub trait SliceIntoVec<T, A: Allocator> {
 impl<T, A: Allocator> SliceIntoVec<T, A> for BoxedSlice<T, A> {
     ghost as_slice = { λ b. b };
 
-    #[tactic(auto, using(crate::proofs::Boxing::unboxed))]
+    #[tactic(auto, using(crate::proofs::Boxing::unboxed, crate::proofs::Tidy::few_at_end))]
     fn into_vec(self) -> Vec<T, A> {
         let (block, len) = self.into_block();
         block.prove_capacity_bounds();
-        Vec { block, len }
+        Vec {
+            block,
+            len,
+            apart: Counter::zero(),
+            settled: Counter::zero(),
+        }
     }
 }

@@ -2,7 +2,7 @@
 //! gaps that it makes. Places are counted from the last item on.
 ghost use Rattle.std.specs.Prelude.{◌≡◌, ◌+◌, ◌-◌, ◌<◌, ◌≤◌, [], ◌∷◌, slice_set, None};
 ghost use Rattle.aa_vec.specs.Vector.{len};
-ghost use Rattle.aa_vec.specs.Tail.{HasTail, SetsTail, ClosesGap, DropsTail, ShiftsDown, ClosesTwoGaps, tail_items, with_spare};
+ghost use Rattle.aa_vec.specs.Tail.{HasTail, SetsTail, ClosesGap, DropsTail, DropsAndCloses, ClosesTwoGaps, tail_items, with_spare};
 
 use crate::vec::Vec;
 use std::alloc::Allocator;
@@ -17,12 +17,13 @@ impl<T, A: Allocator> Vec<T, A> {
     {
         let count = self.len - at;
         self.len = at;
+        self.apart.add(count);
         count
     }
 
     // Moves the `count` elements after the gap down to the last item.
     #[inline]
-    #[tactic(auto, using(crate::proofs::Gaps::closed, crate::proofs::Becoming::becomes))]
+    #[tactic(auto, using(crate::proofs::Gaps::closed, crate::proofs::Becoming::becomes, crate::proofs::Tidy::fewer))]
     pub(crate) fn close_gap(&mut self, gap: usize, count: usize)
         requires { HasTail self.old gap count }
         ensures { ClosesGap self.old gap count self.new }
@@ -32,6 +33,7 @@ impl<T, A: Allocator> Vec<T, A> {
         // capacity is read.
         let _within = self.block.capacity();
         self.len = len + count;
+        self.settled.add(count);
         self.block.move_down(len + gap, len, count);
     }
 
@@ -57,6 +59,7 @@ impl<T, A: Allocator> Vec<T, A> {
         ensures after { self.new ≡ with_spare self.old (slice_set self.old.spare gap None) }
     {
         let _within = self.block.capacity();
+        self.settled.add(1);
         self.block.take(self.len + gap)
     }
 
@@ -71,7 +74,7 @@ impl<T, A: Allocator> Vec<T, A> {
     }
 
     // Drops the `count` elements after the gap.
-    #[tactic(auto, using(crate::proofs::Gaps::cleared))]
+    #[tactic(auto, using(crate::proofs::Gaps::cleared, crate::proofs::Tidy::fewer))]
     pub(crate) fn drop_from_tail(&mut self, gap: usize, count: usize)
     where
         T: Drop,
@@ -80,6 +83,7 @@ impl<T, A: Allocator> Vec<T, A> {
     {
         let len = self.len;
         let _within = self.block.capacity();
+        self.settled.add(count);
         self.block.drop_run(len + gap, count);
     }
 
@@ -92,7 +96,7 @@ impl<T, A: Allocator> Vec<T, A> {
         requires ordered { (front ≤ back) × (back ≤ end) × (end ≤ total) }
         requires has_tail { HasTail self.old front (back - front)
             × HasTail self.old end (total - end) }
-        ensures { ShiftsDown self.old end (total - end) self.new }
+        ensures { DropsAndCloses self.old (back - front) end (total - end) self.new }
     {
         self.drop_from_tail(front, back - front);
         self.close_gap(end, total - end);

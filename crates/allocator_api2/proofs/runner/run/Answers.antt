@@ -1,17 +1,11 @@
-use Rattle.allocator_api2.proofs.Common.{◌≡◌, ◌+◌, ◌∷◌, [], length, arith, ap, ◌∙◌, SameBlock-refl, SameBlock-trans}
-use Rattle.std.proofs.lemmas.List.{length-append}
+use Rattle.allocator_api2.proofs.Common.{◌≡◌, ◌+◌, [], ◌∷◌, length, length-append, arith, ap, rules, ◌∙◌, SameBlock-refl, SameBlock-trans}
 use Rattle.allocator_api2.proofs.Runs.{HasRun-start, HasRun-more, HasRun-end}
 use Rattle.allocator_api2.proofs.runner.run.Goals as goal
 
 pub loop-command-init : goal.loop-command-init
 loop-command-init g c =
     let possible = c.prove_possible.ensures in
-    rw c.into_iter-command-iterator.ensures.into_iter_gives (record {
-      run = HasRun-start _ _ _ _ _ possible;
-      callable = c.requires.callable.along possible;
-      room = c.requires.room;
-      stay = SameBlock-refl c.args.replies.now;
-    })
+    rw c.into_iter-command-iterator.ensures.into_iter_gives (search (rules, HasRun-start, c.requires.callable.along possible, c.requires.room, SameBlock-refl))
 
 pub loop-command-preserved : goal.loop-command-preserved
 loop-command-preserved g c =

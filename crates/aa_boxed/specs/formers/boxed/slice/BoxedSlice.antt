@@ -18,6 +18,7 @@ use denote.Model.Placed as placed
 use Rattle.std.specs.declared.alloc.Allocator.{Ghosts}
 use Rattle.aa_raw.specs.Held.{slots, pair_recoded}
 use Rattle.aa_raw.specs.Mapped.{others_over, run_over, IsRun-over, IsRun-under, IsRun-once, run_held}
+use Rattle.aa_raw.specs.Growths.{Growths, of_new}
 use Rattle.aa_raw.specs.Places.{run}
 use Rattle.aa_raw.specs.declared.raw_vec.Growth.{Growth}
 use Rattle.aa_raw.specs.declared.raw_vec.Growth.TheVariants.{Doubling}
@@ -30,14 +31,14 @@ use Rattle.aa_boxed.specs.contracts.boxed.slice.BoxedSlice as C
 use Rattle.aa_boxed.specs.contracts.boxed.slice.BoxedSlice.TheInside as I
 
 abbrev pub the_former : Former {0} → Type 0 → Former {0}
-the_former g Z = via (pair (list g) (const (Growth × Z))) (λ X. Slice (g.Of X) Z) (λ X s. (s.items, (s.growth, s.alloc)))
-    (λ X v. record { items = v.0; growth = v.1.0; alloc = v.1.1 }) (λ X s. refl) (λ X v. refl)
+the_former g Z = via (pair (list g) (const (Growth × (Growths × Z)))) (λ X. Slice (g.Of X) Z) (λ X s. (s.items, (s.growth, (s.grown, s.alloc))))
+    (λ X v. record { items = v.0; growth = v.1.0; grown = v.1.1.0; alloc = v.1.1.1 }) (λ X s. refl) (λ X v. refl)
 
 abbrev pub the_weighed : {g : Former {0}} → Weighed g → (Z : Type 0) → Weighed (the_former g Z)
 the_weighed w Z = record { weight = λ X μ s. most (w.weight X μ) s.items; puts = λ X μ s. List-puts w X μ s.items }
 
 pub the_empty : (Z : Type 0) → Z → Slice ⊥ Z
-the_empty Z z = record { items = []; growth = Doubling; alloc = z }
+the_empty Z z = record { items = []; growth = Doubling; grown = of_new 0 0; alloc = z }
 
 abbrev pub the_items : (Z X : Type 0) → Slice X Z → List X
 the_items Z X s = s.items
@@ -83,7 +84,7 @@ module _ {X Y Z : Type 0} (k : X → Y) (v : Inside X Z) where
 module _ (Z : RattleType) (G : Ghosts Z.Denot) (R S : RattleType) (h : R.Denot → S.Denot) where
   pub the_places : Alike R S h → Alike (C.the_row R Z G) (C.the_row S Z G) ((the_former this Z.Denot).map R.Denot S.Denot h)
   the_places a = placed.view_places_where (fields Z.Denot) (the_former this Z.Denot) (λ X. view X Z.Denot G)
-      (λ X Y k u i. record { items = run_over k 0 u.len u.block.places i; growth = u.block.growth; alloc = u.block.alloc })
+      (λ X Y k u i. record { items = run_over k 0 u.len u.block.places i; growth = u.block.growth; grown = u.block.grown; alloc = u.block.alloc })
       (λ X u. IsWhole u) (λ X Y k u. whole_under k u) (λ X u. whole_held u)
       R.Denot S.Denot h (C.the_row R Z G).coded (C.the_row S Z G).coded
       (invariant R.Denot Z.Denot G) (invariant S.Denot Z.Denot G) whole_once whole_once (whole_over h) (whole_under h) (λ u w. w)

@@ -1,6 +1,6 @@
-use Rattle.aa_gap.proofs.{[], empty, len, refl, type_size, ◌∙◌, ◌≡◌}
+use Rattle.aa_gap.proofs.{empty, len, refl, type_size, ◌∙◌, ◌≡◌}
+use Rattle.aa_raw.proofs.Beyond.{none-fresh}
 use Rattle.aa_raw.proofs.Places.{length-empty_places}
-use Rattle.aa_raw.specs.Growths.{of_new}
 use Rattle.std.proofs.lemmas.List.Elements.{same_from_all_zip}
 use denote.Param.{param}
 use Rattle.aa_gap.proofs.Extending.{IsCopy-made, parts-made}
@@ -12,21 +12,15 @@ made-empty : (g : Over) (c : goal.After-move_to g) → let size = type_size (par
     c.with_block-copy.result
     ≡ empty size (len c.args.self.now) c.args.self.now.growth c.in-Ok.alloc
 made-empty g c =
-    let T = param 0 g.row.T in let b = c.args.self.now in
-    let size = type_size T in
-    let long = length-empty_places T.Denot size (len b) in
+    let T = param 0 g.row.T in
+    let long = length-empty_places T.Denot (type_size T) (len c.args.self.now) in
     let block = c.in_ok-block.ensures.made in
     let sizes = c.len-capacity.ensures.count in let growth = c.growth-growth.ensures in
-    c.with_block-copy.ensures ∙ rw (block, sizes, growth) (λ i. record {
-      before = [];
-      after = [];
-      capacity = long i;
-      growth = b.growth;
-      grown = of_new size (len b);
-      written = 0;
-      runs = 0;
-      alloc = c.in-Ok.alloc;
-    })
+    c.with_block-copy.ensures ∙ rw (block, sizes, growth, long)
+
+pub with_block-copy-requires : goal.with_block-copy-requires
+with_block-copy-requires g c =
+    let T = param 0 g.row.T in rw c.in_ok-block.ensures.made (none-fresh T.Denot (type_size T) c.len-capacity.result)
 
 pub returns-clause-made : goal.returns-clause-made
 returns-clause-made g c =

@@ -1,6 +1,5 @@
 -- `raise` does nothing, and sets the ghost field, as `add` does.
-use Rattle.aa_raw.proofs.{ !, Goes-dropped, Goes-ref, MutRef, Stays, [], alloc_all, closes, done, ends_at, enter, feq_i, fjoin, flft, frame, free_all, fsplit3, ftrue, group, join, keep, look_at, move, mut_Tells, mut_vals, named, nothing, of_opd, opens, pass_all, plain, proved, qed, refl, returns, says, sets, split, stay_dropped, stay_ref, suffices, tables, tally_row as R, uint_Tells, uint_vals, unit_lit, usize, vunit, w64, walk_of, yes, ‵, ◌$◌, ◌∵◌, ◌∷◌, ◌⊛◌}
-use Rattle.std.specs.Prelude.{max}
+use Rattle.aa_raw.proofs.{ !, Goes-dropped, Goes-ref, MutRef, Stays, [], alloc_all, closes, done, ends_at, enter, feq_i, fjoin, flft, frame, free_all, fsplit3, ftrue, group, join, keep, look_at, max, move, mut_Tells, mut_vals, named, nothing, of_opd, opens, pass_all, plain, proved, qed, refl, returns, says, sets, split, stay_dropped, stay_ref, suffices, tables, tally_row as R, uint_Tells, uint_vals, unit_lit, usize, vunit, w64, walk_of, yes, ‵, ◌$◌, ◌∵◌, ◌∷◌, ◌⊛◌}
 use Rattle.aa_raw.specs.contracts.counter.Counter.raise as f
 use Rattle.aa_raw.proofs.counter.Counter.raise.Code as code
 

@@ -28,7 +28,7 @@ cut_spec 𝓤 𝓛 𝓜 𝓡 wired X LX =
     use1 𝓛 (‵ (SpotsFrom E 𝓛 b o 0 front) ⊛ ‵ (SpotsFrom E 𝓛 b o i back)) (cut_spots 𝓛 (Spot E 𝓛 b o) front back 0 i (omega (arith, length-take i d.places))) $ split ! $
     let r : (Rw E).Denot = record { ptr = block_ptr b (at E 𝓛 b o i); places = back } in
     move ! (1 ∷ []) $ rewrite ! 0 (λ (F : Fml). ‵ F) (sym (same_spots E 𝓛 b o i 0 i back (omega arith))) refl $
-    row_made E ! r b (at E 𝓛 b o i) refl (times_below (length back) (length d.places) (sz E) (2 ^ 63) (omega (arith, length-drop i d.places)) small) $
+    row_made (R E) ! r b (at E 𝓛 b o i) refl (times_below (length back) (length d.places) (sz E) (2 ^ 63) (omega (arith, length-drop i d.places)) small) $
     move ! (1 ∷ 2 ∷ 3 ∷ 4 ∷ 5 ∷ []) $
     closes_row E ! tt d rb ro b o front p (times_below (length front) (length d.places) (sz E) (2 ^ 63) (omega (arith, length-take i d.places)) small) $
     returns ! (look_at ! 0 refl) $ free_all ! refl $

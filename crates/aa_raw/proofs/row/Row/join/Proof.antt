@@ -18,7 +18,7 @@ join_spec 𝓤 𝓛 𝓜 𝓡 wired X LX =
     ∷ (raw (fact 𝓤 (κs.1.0 ⊑ X.lives)) ⊛ raw (fact 𝓤 Begins) ⊛ raw (fact 𝓤 Few)) ∷ []) ∵
     move ! (1 ∷ []) $ split ! $ drop ! $ split ! $ heard ! Begins (λ begins. heard ! Few (λ few.
     split ! $ split ! $ move ! (2 ∷ []) $ fsplit ! $ fsplit3 ! $ move ! (3 ∷ []) $ fsplit ! $ keep ! (0 ∷ 3 ∷ 4 ∷ 5 ∷ 6 ∷ []) $
-    row_had E ! r us.1.0 (λ rb' ro' lies spelt small'.
+    row_had (R E) ! r us.1.0 (λ rb' ro' lies spelt small'.
     let vss : Vals (f.ended X).signature κs = (mut_vals a.0, (word rb' ro' ∷ [], tt)) in let y = spelled vss in
     regoal ! (λ (uss : Vals (f.ended X).signature κs). prop (WpFn 𝓤 𝓛.H 𝓣.C 𝓣.Λ e (W.args (spelled uss)) (W.post (spelled uss)))) (λ k. (are.0.0 k, (spelt k, tt))) refl $
     enter ! _ _ _ _ _ $ alloc_all ! (λ l. pass_all ! refl ((tt, tt), ((tt, (tt, tt)), tt)) $

@@ -1,20 +1,13 @@
-use Rattle.aa_raw.proofs.{AllZip-push, HoldsClones, List, Option, Some, [], ap, arith, length, length-append, length-set, length-take-le, refl, run, slice_set, subst, sym, take, take_at_read, ◌++◌, ◌+◌, ◌<◌, ◌∙◌, ◌∷◌, ◌≡◌}
+use Rattle.aa_raw.proofs.{AllZip-push, HoldsClones, List, Option, Some, [], ap, arith, length, length-append, length-set, length-take-le, run, slice_set, subst, sym, take, take_at_read, ◌++◌, ◌+◌, ◌<◌, ◌∙◌, ◌∷◌, ◌≡◌}
 use Rattle.aa_raw.proofs.Calls.{IsRun-put, run-put}
-use Rattle.aa_raw.proofs.Runs.{IsRun-nil, run-zero}
 use Rattle.aa_raw.proofs.vec.clones.put_clones.Goals as goal
 
 -- Clones of elements written into the first places of a block, one after another.
 module _ {X : Type 0} (clones : X → X → Type 0) (places : List (Option X)) where
-  none-cloned : HoldsClones clones [] places
-  none-cloned = record { filled = IsRun-nil places 0 (omega arith); each = rw (run-zero places 0) tt }
-
   one-cloned : (xs : List X) (x y : X) → length xs < length places → clones x y → HoldsClones clones xs places → HoldsClones clones (xs ++ x ∷ []) (slice_set places (length xs) (Some y))
   one-cloned xs x y room c p =
       let more = length-append xs (x ∷ []) in
       record { filled = rw more (IsRun-put places (length xs) y room p.filled); each = rw (more, run-put places (length xs) y room) (AllZip-push clones xs (run places 0 (length xs)) x y p.each c) }
-
-pub each-init : goal.each-init
-each-init g c = record { clones = none-cloned g.T.Clone.is_clone c.args.block.now.places; long = refl; grown = refl; written = omega arith; runs = omega arith; alloc = refl }
 
 pub each-preserved : goal.each-preserved
 each-preserved g c =

@@ -10,14 +10,10 @@ full-preserved g c =
     let i = c.full.invariant in let gone = c.fill_up.ensures.advanced c.if-fill_up-ne0.false in let on = c.in-Some.ensures.goes.on gone.1 in
     let p = Placing-full _ _ _ _ _ c.full.iter c.full.self i.placing g.W.LowerBound.some _ _ _ c.if-fill_up-ne0.false c.fill_up.ensures.filled in
     let r = c.in_ok-try_reserve.ensures in let put = c.put_next.ensures.put in
-    record {
-      can = on.0;
-      finite = on.1;
-      placing =
-          Placing-grown _ _ _ _ _ _ _ p.0 p.1 c.in-Some.x _ c.in-Some.ensures.steps c.lower_bound.result c.lower_bound.ensures c.saturating_add.result c.saturating_add.ensures
-          c.try_reserve.new.self c.put_next.new.self r.reserved put;
-      fewer = omega (arith, i.fewer, gone.2, on.2, p.2, i.placing.fits, ap (λ (v : Vector _ _). len v) put, length-append c.try_reserve.new.self.items (c.in-Some.x ∷ []), ap (λ (v : Vector _ _). len v) r.reserved);
-    }
+    let placing =
+    Placing-grown _ _ _ _ _ _ _ p.0 p.1 c.in-Some.x _ c.in-Some.ensures.steps c.lower_bound.result c.lower_bound.ensures c.saturating_add.result c.saturating_add.ensures
+    c.try_reserve.new.self c.put_next.new.self r.reserved put in
+    search (arith, on, placing, i.fewer, gone.2, p.2, i.placing.fits, ap (λ (v : Vector _ _). len v) put, length-append c.try_reserve.new.self.items (c.in-Some.x ∷ []), ap (λ (v : Vector _ _). len v) r.reserved)
 
 pub returns-in_err-try_reserve : goal.returns-in_err-try_reserve
 returns-in_err-try_reserve g c =

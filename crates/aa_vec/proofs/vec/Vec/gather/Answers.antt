@@ -1,12 +1,9 @@
 use Rattle.aa_vec.proofs.Common.{rules}
-use Rattle.aa_vec.proofs.Gathered.{LacksRest-clone, LacksRest-first, LacksRest-more}
+use Rattle.aa_vec.proofs.Gathered.{LacksRest-clone, LacksRest-more}
 use Rattle.aa_vec.proofs.vec.Vec.gather.Goals as goal
 
 pub returns-in_default-clause-failed : goal.returns-in_default-clause-failed
 returns-in_default-clause-failed g c = LacksRest-clone _ _ _ _ _ _ c.args.self.now _ c.lower_bound.ensures _ c.saturating_add-wanted.ensures _ (search rules) (search rules)
-
-pub returns-in-Err-clause-failed : goal.returns-in-Err-clause-failed
-returns-in-Err-clause-failed g c = LacksRest-first _ _ _ _ _ _ c.args.self.now _ c.lower_bound.ensures _ c.saturating_add-wanted.ensures _ c.new_in-more.result c.new_in-more.ensures _ c.in-Err.ensures.error
 
 pub returns-in-Err-extend_with_bound-clause-failed : goal.returns-in-Err-extend_with_bound-clause-failed
 returns-in-Err-extend_with_bound-clause-failed g c =

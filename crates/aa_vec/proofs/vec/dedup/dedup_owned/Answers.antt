@@ -6,8 +6,7 @@ use Rattle.aa_vec.proofs.vec.dedup.dedup_owned.Goals as goal
 pub chain_on_tail-first-requires : goal.chain_on_tail-first-requires
 chain_on_tail-first-requires g c =
     let s = chained-start c.set_tail-left.result c.set_tail-left.ensures.tail_set c.set_tail-left.ensures.count c.len-end.ensures.count c.requires in
-    let on = stage-on _ _ _ _ _ _ s.0 s.1 in
-    record { last = on.may.some; some = omega (arith, c.if-end-at.false); has_tail = on.has_tail; callable = on.may.along }
+    search (arith, stage-on _ _ _ _ _ _ s.0 s.1, c.if-end-at.false)
 
 pub returns-then-end-at-clause-removed : goal.returns-then-end-at-clause-removed
 returns-then-end-at-clause-removed g c =
@@ -17,7 +16,7 @@ returns-then-end-at-clause-removed g c =
 pub step_over_many-requires : goal.step_over_many-requires
 step_over_many-requires g c =
     let s = chained-start c.set_tail-left.result c.set_tail-left.ensures.tail_set c.set_tail-left.ensures.count c.len-end.ensures.count c.requires in
-    let turn = chained-turn s.0 s.1 c.chain_on_tail-first.ensures in record { within = turn.0; has_tail = turn.1 }
+    search (chained-turn s.0 s.1 c.chain_on_tail-first.ensures)
 
 pub runs-init : goal.runs-init
 runs-init g c =
@@ -25,14 +24,11 @@ runs-init g c =
     let p = (chained-turn s.0 s.1 c.chain_on_tail-first.ensures).2 _ _ c.step_over_many.ensures in (p.0, p.2)
 
 pub chain_on_tail-kept-requires : goal.chain_on_tail-kept-requires
-chain_on_tail-kept-requires g c =
-    let on = stage-on _ _ _ _ _ _ c.runs.invariant.0 c.len.ensures.count in
-    record { last = on.may.some; some = omega (arith, c.runs-test.true); has_tail = on.has_tail; callable = on.may.along }
+chain_on_tail-kept-requires g c = search (arith, stage-on _ _ _ _ _ _ c.runs.invariant.0 c.len.ensures.count, c.runs-test.true)
 
 pub step_over-requires : goal.step_over-requires
 step_over-requires g c =
-    let turn = chained-turn c.runs.invariant.0 c.len.ensures.count c.chain_on_tail-kept.ensures in
-    record { has_gap = omega (arith, c.runs.invariant.1 (omega (arith, c.runs-test.true)), c.len.ensures.count); some = omega (arith, c.runs-test.true); within = turn.0; has_tail = turn.1 }
+    search (arith, chained-turn c.runs.invariant.0 c.len.ensures.count c.chain_on_tail-kept.ensures, c.runs.invariant.1 (omega (arith, c.runs-test.true)), c.len.ensures.count, c.runs-test.true)
 
 pub runs-preserved : goal.runs-preserved
 runs-preserved g c = let p = (chained-turn c.runs.invariant.0 c.len.ensures.count c.chain_on_tail-kept.ensures).2 _ _ c.step_over.ensures in (p.0, p.2)
@@ -46,14 +42,10 @@ pub returns-then-end-at-2-clause-removed : goal.returns-then-end-at-2-clause-rem
 returns-then-end-at-2-clause-removed g c = Deduplicates-ended c.runs.invariant.0 (omega (arith, c.if-end-at-2.true, c.runs.invariant.0.within)) c.len-end.ensures.count
 
 pub chain_on_tail-rest-requires : goal.chain_on_tail-rest-requires
-chain_on_tail-rest-requires g c =
-    let on = stage-on _ _ _ _ _ _ c.runs.invariant.0 c.len-2.ensures.count in
-    record { last = on.may.some; some = omega (arith, c.if-end-at-2.false); has_tail = on.has_tail; callable = on.may.along }
+chain_on_tail-rest-requires g c = search (arith, stage-on _ _ _ _ _ _ c.runs.invariant.0 c.len-2.ensures.count, c.if-end-at-2.false)
 
 pub step_over_many-requires-2 : goal.step_over_many-requires-2
-step_over_many-requires-2 g c =
-    let turn = chained-turn c.runs.invariant.0 c.len-2.ensures.count c.chain_on_tail-rest.ensures in
-    record { within = turn.0; has_tail = turn.1 }
+step_over_many-requires-2 g c = search (chained-turn c.runs.invariant.0 c.len-2.ensures.count c.chain_on_tail-rest.ensures)
 
 pub returns-clause-removed : goal.returns-clause-removed
 returns-clause-removed g c =

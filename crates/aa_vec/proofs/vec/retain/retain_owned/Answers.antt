@@ -6,7 +6,7 @@ use Rattle.aa_vec.proofs.vec.retain.retain_owned.Goals as goal
 pub step_over_many-requires : goal.step_over_many-requires
 step_over_many-requires g c =
     let start = retained-start c.set_tail-end.ensures.tail_set c.set_tail-end.ensures.count c.requires in
-    let turn = asked-turn start.0 start.1 c.count_kept_in_tail-first.ensures in record { within = turn.0; has_tail = turn.1 }
+    search (asked-turn start.0 start.1 c.count_kept_in_tail-first.ensures)
 
 pub returns-then-end-at-clause-retained : goal.returns-then-end-at-clause-retained
 returns-then-end-at-clause-retained g c =
@@ -20,14 +20,11 @@ runs-init g c =
     let p = (asked-turn start.0 start.1 c.count_kept_in_tail-first.ensures).2 _ _ c.step_over_many.ensures in (p.0, p.2)
 
 pub count_kept_in_tail_many-kept-requires : goal.count_kept_in_tail_many-kept-requires
-count_kept_in_tail_many-kept-requires g c =
-    let on = stage-on _ _ _ _ _ _ c.runs.invariant.0 c.len.ensures.count in
-    record { some = omega (arith, c.runs-test.true); has_tail = on.has_tail; callable = on.may }
+count_kept_in_tail_many-kept-requires g c = search (arith, stage-on _ _ _ _ _ _ c.runs.invariant.0 c.len.ensures.count, c.runs-test.true)
 
 pub step_over-requires : goal.step_over-requires
 step_over-requires g c =
-    let turn = asked-turn c.runs.invariant.0 c.len.ensures.count c.count_kept_in_tail_many-kept.ensures in
-    record { has_gap = omega (arith, c.runs.invariant.1 (omega (arith, c.runs-test.true)), c.len.ensures.count); some = omega (arith, c.runs-test.true); within = turn.0; has_tail = turn.1 }
+    search (arith, asked-turn c.runs.invariant.0 c.len.ensures.count c.count_kept_in_tail_many-kept.ensures, c.runs.invariant.1 (omega (arith, c.runs-test.true)), c.len.ensures.count, c.runs-test.true)
 
 pub runs-preserved : goal.runs-preserved
 runs-preserved g c = let p = (asked-turn c.runs.invariant.0 c.len.ensures.count c.count_kept_in_tail_many-kept.ensures).2 _ _ c.step_over.ensures in (p.0, p.2)
@@ -41,9 +38,7 @@ pub returns-then-end-at-2-clause-retained : goal.returns-then-end-at-2-clause-re
 returns-then-end-at-2-clause-retained g c = Retains-ended c.runs.invariant.0 (omega (arith, c.if-end-at-2.true, c.runs.invariant.0.within))
 
 pub step_over_many-requires-2 : goal.step_over_many-requires-2
-step_over_many-requires-2 g c =
-    let turn = asked-turn c.runs.invariant.0 c.len-2.ensures.count c.count_kept_in_tail-rest.ensures in
-    record { within = turn.0; has_tail = turn.1 }
+step_over_many-requires-2 g c = search (asked-turn c.runs.invariant.0 c.len-2.ensures.count c.count_kept_in_tail-rest.ensures)
 
 pub returns-clause-retained : goal.returns-clause-retained
 returns-clause-retained g c =

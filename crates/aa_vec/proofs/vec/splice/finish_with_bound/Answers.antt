@@ -21,9 +21,8 @@ pub returns-then-fill_and_close-ne0 : goal.returns-then-fill_and_close-ne0
 returns-then-fill_and_close-ne0 g c =
     let a = c.args in let d = c.drop_from_tail.ensures in
     let kept = dropped_are a.vec.now c.drop_from_tail.new.self a.vec.now a.front (a.back - a.front) a.end (a.total - a.end) (omega (arith, c.requires.ordered)) d in
-    let x = Spliced-ended g.I.Iterator _ g.W.LowerBound.some (λ a. ¬ (g.A.Clone.is_infallible a)) _ _ a.vec.now _ _ _ _ kept (length-run _ 0 _ c.requires.has_tail.1.1) (omega (arith, c.if-count-eq0.false)) _ _ c.fill_and_close.new.self
-    (rw d.same at c.fill_and_close.ensures.filled) (omega (arith, c.if-fill_and_close-ne0.true)) in
-    x
+    Spliced-ended g.I.Iterator _ g.W.LowerBound.some (λ a. ¬ (g.A.Clone.is_infallible a)) _ _ a.vec.now _ _ _ _ kept (length-run _ 0 _ c.requires.has_tail.1.1) (omega (arith, c.if-count-eq0.false)) _ _ c.fill_and_close.new.self
+    (rw d.same at c.fill_and_close.ensures.filled) (omega (arith, c.if-fill_and_close-ne0.true))
 
 pub put_more-requires-clause-count : goal.put_more-requires-clause-count
 put_more-requires-clause-count g c =
@@ -36,6 +35,5 @@ pub returns : goal.returns
 returns g c =
     let a = c.args in let d = c.drop_from_tail.ensures in let full = c.if-fill_and_close-ne0.false in
     let kept = dropped_are a.vec.now c.drop_from_tail.new.self a.vec.now a.front (a.back - a.front) a.end (a.total - a.end) (omega (arith, c.requires.ordered)) d in
-    let x = Spliced-more g.I.Iterator _ g.W.LowerBound.some (λ a. ¬ (g.A.Clone.is_infallible a)) _ _ a.vec.now _ _ _ _ kept (length-run _ 0 _ c.requires.has_tail.1.1) (omega (arith, c.if-count-eq0.false)) _ _ c.fill_and_close.new.self
-    (rw d.same at c.fill_and_close.ensures.filled) full c.lower_bound-bound.result c.lower_bound-bound.ensures _ c.put_more.result c.put_more.new.self c.put_more.ensures (c.fill_and_close.ensures.advanced full).1 (c.fill_and_close.ensures.advanced full).2 in
-    x
+    Spliced-more g.I.Iterator _ g.W.LowerBound.some (λ a. ¬ (g.A.Clone.is_infallible a)) _ _ a.vec.now _ _ _ _ kept (length-run _ 0 _ c.requires.has_tail.1.1) (omega (arith, c.if-count-eq0.false)) _ _ c.fill_and_close.new.self
+    (rw d.same at c.fill_and_close.ensures.filled) full c.lower_bound-bound.result c.lower_bound-bound.ensures _ c.put_more.result c.put_more.new.self c.put_more.ensures (c.fill_and_close.ensures.advanced full).1 (c.fill_and_close.ensures.advanced full).2

@@ -10,6 +10,7 @@ returns-clause-collected g c =
         items = by.collected;
         runs = by.runs;
         growth = by.growth;
+        grown = by.grown;
         alloc = by.alloc;
         error = by.failed;
       },

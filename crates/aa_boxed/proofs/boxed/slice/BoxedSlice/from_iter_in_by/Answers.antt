@@ -1,4 +1,4 @@
-use Rattle.aa_boxed.proofs.{Coming-ends, Coming-put, Coming-fails, HasMore, arith, err_from_is_err_and, inr, refl, fails_at_end, subst, sym, type_size, whole_run_of}
+use Rattle.aa_boxed.proofs.{Coming-costs, Coming-ends, Coming-fails, Coming-grown, Coming-there, err_from_is_err_and, finished, inr, fails_at_end, refl, shrunk, type_size, whole_run_of, ◌∙◌}
 use Rattle.aa_boxed.proofs.boxed.slice.BoxedSlice.from_iter_in_by.Goals.{else-is_full, then-is_full+in_ok-reserve}
 use Rattle.aa_boxed.proofs.boxed.slice.BoxedSlice.from_iter_in_by.Goals as goal
 
@@ -11,11 +11,9 @@ loop-x-preserved g c =
       coming = elim c.if-is_full.branch [
         | then-is_full+in_ok-reserve w ↦
             let r = w.in_ok-reserve.ensures in
-            Coming-put _ _ _ _ _ _ f i.coming c.in-Some.x _ c.in-Some.ensures.steps on.2 c.if-is_full.builder
-            (subst (HasMore f) (sym w.builder-is) (record { items = r.items; growth = r.growth; alloc = r.alloc; capacity = r.capacity })) c.put.new.self c.put.ensures
-        | else-is_full w ↦
-            Coming-put _ _ _ _ _ _ f i.coming c.in-Some.x _ c.in-Some.ensures.steps on.2 c.if-is_full.builder
-            (subst (HasMore f) (sym w.builder-is) (record { items = refl; growth = refl; alloc = refl; capacity = omega arith })) c.put.new.self c.put.ensures
+            Coming-grown _ _ _ _ _ _ f i.coming c.in-Some.x _ c.in-Some.ensures.steps on.2 w.if-is_full.ensures.full w.size_hint.result.0 w.saturating_add.result
+            (w.size_hint.ensures.lower on.1) w.saturating_add.ensures r.has_size c.if-is_full.builder c.put.new.self (w.builder-is ∙ r.reserved) c.put.ensures
+        | else-is_full w ↦ Coming-there _ _ _ _ _ _ f i.coming c.in-Some.x _ c.in-Some.ensures.steps on.2 c.if-is_full.builder c.put.new.self w.builder-is c.put.ensures
       ];
     }
 
@@ -27,10 +25,13 @@ returns-in_err-reserve-clause-failed g c =
     (Coming-fails _ _ _ _ _ _ c.loop-x.builder i.coming c.in-Some.x _ c.in-Some.ensures.steps on.2 c.if-is_full.ensures.full g.I.Iterator.remaining c.size_hint.result.0 c.size_hint.ensures.lower c.saturating_add.result c.saturating_add.ensures _ c.in_err-reserve.ensures.error)
 
 pub returns-clause-runs : goal.returns-clause-runs
-returns-clause-runs g c = whole_run_of _ c.loop-x.builder _ _ (Coming-ends _ _ _ _ _ _ c.loop-x.builder c.loop-x.invariant.coming _ c.in_default.ensures.steps) c.finish_shrunk.result c.finish_shrunk.ensures.finished
+returns-clause-runs g c = whole_run_of _ c.loop-x.builder _ _ (Coming-ends _ _ _ _ _ _ c.loop-x.builder c.loop-x.invariant.coming _ c.in_default.ensures.steps) c.finish_shrunk.result (finished (shrunk (type_size g.row.T) c.loop-x.builder)) refl c.finish_shrunk.ensures.finished
 
 pub returns-clause-failed : goal.returns-clause-failed
 returns-clause-failed g c = fails_at_end _ c.loop-x.builder _ _ (Coming-ends _ _ _ _ _ _ c.loop-x.builder c.loop-x.invariant.coming _ c.in_default.ensures.steps) g.I.Iterator.remaining (type_size g.row.T) _ (λ e h. inr h) c.finish_shrunk.result c.finish_shrunk.ensures.error
 
 pub returns-clause-advanced : goal.returns-clause-advanced
 returns-clause-advanced g c = fails_at_end _ c.loop-x.builder _ _ (Coming-ends _ _ _ _ _ _ c.loop-x.builder c.loop-x.invariant.coming _ c.in_default.ensures.steps) g.I.Iterator.remaining (type_size g.row.T) _ (λ e h. inr h) c.finish_shrunk.result c.finish_shrunk.ensures.error
+
+pub returns-clause-grown : goal.returns-clause-grown
+returns-clause-grown g c = Coming-costs _ _ _ _ _ _ c.loop-x.builder c.loop-x.invariant.coming c.finish_shrunk.result c.finish_shrunk.ensures.finished

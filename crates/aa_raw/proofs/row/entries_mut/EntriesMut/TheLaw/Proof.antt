@@ -1,6 +1,5 @@
 -- A `&` to borrowed entries holds none of them. Assumes `Logic`.
-use Rattle.aa_raw.proofs.{Laws, Lends-nothing, RattleType, RawPtr-copy, RawPtr-field, MutRef, Tuple, [], copy_shared, field_copy, nothing_shr_laws, of_Lends, ◌∷◌}
-use denote.Ref.{NamedLft}
+use Rattle.aa_raw.proofs.{Laws, Lends-nothing, MutRef, NamedLft, RattleType, RawPtr-copy, RawPtr-field, Tuple, [], copy_shared, field_copy, nothing_shr_laws, of_Lends, ◌∷◌}
 use Rattle.core.specs.contracts.marker.PhantomData as marker
 use Rattle.aa_raw.specs.contracts.row.entries_mut.EntriesMut as C
 

@@ -1,17 +1,11 @@
 -- One entry is taken, for the whole lifetime of the borrow. Assumes `Logic`.
-use Rattle.aa_raw.proofs.{ !, Fml, Goes-dropped, Goes-ref, IsFilled, List, MutRef, None, Ptr, RattleType, Stays, Struct, Tuple, Val, Vals, Valss, [], addr, after, agg, alloc_all, and_then, ap, arith, at_ret, bin, block_ptr, blocks, cell_at, closes, done, ends_at, enter, env, exec, fact, feq_i, feq_l, filled_within, first, fjoin, fjoin3, fld, flft, flt_l, fpack, fpick, free_all, fsplit, fsplit3, ftrue, full_share, get, get_or, heard, id⊢, in_a_block, inst_fn, is, join, keep, layouts, length, load, look_at, look_in, lose as drop, move, mut_Tells, mut_vals, named, never, no_more, nothing, of_list, of_opd, opens, owns, pass_all, plain, proved, ptr_val, pure_i, qed, raw, refl, returns, rewrite, sets, sets_last, shape, size_word, slice_set, split, stay_dropped, stay_ref, stop, sub, subst, suffices, sym, tables, through, times_below, tuple_type, type_size, types_at, uint_Tells, uint_vals, uncapped, usize, value_of, vcons, vint, vnil, vptr, vstruct, w64, walk_of, whole, within, yes, ‵, ℕ, ◌$◌, ◌*◌, ◌++◌, ◌+◌, ◌<◌, ◌^◌, ◌∙◌, ◌∵◌, ◌∷◌, ◌≡◌, ◌⊑◌, ◌⊛◌}
-use denote.Ref.{ShrRef}
-use denote.Signature.{named_lft}
+use Rattle.aa_raw.proofs.{ !, Args, Fml, Goes-dropped, Goes-ref, Incl-trans, IsFilled, List, MutRef, None, Ptr, RattleType, ShrRef, Stays, Struct, Tuple, Val, Vals, Valss, [], a_type, addr, after, agg, alloc_all, and_then, ap, arith, at_ret, bin, block_ptr, blocks, cell_at, closes, done, ends_at, enter, env, exec, fact, feq_i, feq_l, filled_within, first, fjoin, fjoin3, fld, flft, flt_l, fpack, fpick, free_all, fsplit, fsplit3, ftrue, full_share, get, get_or, heard, id⊢, in_a_block, inst_fn, is, join, keep, layouts, length, load, look_at, look_in, lose as drop, move, mut_Tells, mut_vals, named, named_lft, never, no_more, nothing, of_list, of_opd, opens, owns, param, pass_all, plain, proved, ptr_val, pure_i, qed, raw, refl, returns, rewrite, says_three, sets, sets_last, shape, size_word, slice_set, split, stay_dropped, stay_ref, stop, sub, subst, suffices, sym, tables, through, times_below, tuple_type, type_size, types_at, uint_Tells, uint_vals, uncapped, usize, value_of, vcons, vint, vnil, vptr, vstruct, w64, walk_of, whole, within, yes, ‵, ℕ, ◌$◌, ◌*◌, ◌++◌, ◌+◌, ◌<◌, ◌^◌, ◌∙◌, ◌∵◌, ◌∷◌, ◌≡◌, ◌⊑◌, ◌⊛◌}
 use denote.Struct.Declared as Declared
-use mir.Syntax.{Args, a_type}
-use base.Fml.{Incl-trans}
 use Rattle.aa_raw.proofs.EntriesTaken.{key_at, takes_entry, value_at}
 use Rattle.aa_raw.specs.Entries.{Entry, entries_owned}
 use Rattle.aa_raw.specs.contracts.row.entries_mut.EntriesMut as token
 use Rattle.aa_raw.specs.contracts.row.entries_mut.EntriesMut.take as f
 use Rattle.aa_raw.proofs.row.entries_mut.EntriesMut.take.Code as code
-use denote.Param.{param}
-use Rattle.core.proofs.mem.Facts.{says_three}
 
 pub take_spec : {M : Type 1} → Rattle.aa_raw.proofs.row.entries_mut.EntriesMut.take.Statement.statement M
 take_spec 𝓤 𝓛 𝓜 𝓡 wired X Y LX LY =

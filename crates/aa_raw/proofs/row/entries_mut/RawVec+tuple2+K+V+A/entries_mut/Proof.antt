@@ -1,9 +1,5 @@
 -- The entries of a block, lent at once. Assumes `Logic`.
-use Rattle.aa_raw.proofs.{ !, Goes-spent_ref, MutRef, Stays, Val, Vals, [], after, agg, alloc_all, and_then, RattleType, at_ret, block_ptr, done, ends_at, enter, env, exec, fact, feq_i, first, fjoin, fld, flft, frame, free_all, fsplit, fsplit3, ftrue, get, group, heard, inst_fn, join, keep, load, look_at, look_in, lose as drop, move, mut_Tells, mut_ref_to, mut_vals, named, no, no_more, nothing, of_opd, owns, pass_all, plain, proved, pure_i, qed, raw, refl, returns, says, sets, sets_last, shape, split, stay_dropped, stop, sub, suffices, tables, through, types_at, vcons, vnil, vptr, vstruct, walk_of, whole, ‵, ◌$◌, ◌∵◌, ◌∷◌, ◌⊑◌, ◌⊛◌}
-use denote.Param.{bounded}
-use denote.Signature.{named_lft}
-use denote.Struct.Struct.{Struct}
-use mir.Syntax.{Args, a_type, dcons, dnil}
+use Rattle.aa_raw.proofs.{ !, Args, Goes-spent_ref, MutRef, RattleType, Stays, Struct, Val, Vals, [], a_type, after, agg, alloc_all, and_then, at_ret, block_ptr, bounded, dcons, dnil, done, ends_at, enter, env, exec, fact, feq_i, first, fjoin, fld, flft, frame, free_all, fsplit, fsplit3, ftrue, get, group, heard, inst_fn, join, keep, load, look_at, look_in, lose as drop, move, mut_Tells, mut_ref_to, mut_vals, named, named_lft, no, no_more, nothing, of_opd, owns, pass_all, plain, proved, pure_i, qed, raw, refl, returns, says, sets, sets_last, shape, split, stay_dropped, stop, sub, suffices, tables, through, types_at, vcons, vnil, vptr, vstruct, walk_of, whole, ‵, ◌$◌, ◌∵◌, ◌∷◌, ◌⊑◌, ◌⊛◌}
 use Rattle.aa_raw.proofs.EntriesLent.{Bk, K, V, lends_all, opens_block}
 use Rattle.aa_raw.specs.contracts.row.entries_mut.EntriesMut as token
 use Rattle.aa_raw.specs.contracts.row.entries_mut.RawVec+tuple2+K+V+A.entries_mut as f

@@ -2,7 +2,7 @@
 use Rattle.aa_vec.proofs.Walks.{◌-◌, [], ◌∷◌, List, Args, dcons, dnil, a_type, inst_fn, Val, vunit, id⊢, ftrue, ‵, raw, ◌⊛◌, some, later, ◌$◌, ◌∵◌, !, qed, move, keep, use0, use1, group, split, join, fsplit, fjoin, feq_l, feq_i, pick, await, suffices, done, whole, sub, enter, stop, fld, of_opd, addr, unit_lit, and_then, no_more, returns, alloc_all, pass_all, free_all, look_at, get, get_in, through, sets, lands_as, fact, tables, unit, yes, bounded, owns, nothing, heard, only, fields, vals, tells, lawful, calls_at, Ended, lasts, alive, triple_of, framed, Stays, walk_of, ends_at, proved, refl, ap, fact_i, emp, row, Vector}
 use Rattle.aa_vec.proofs.DrainFields.{Decl, Lws, asks, words, only_said, goes, opened}
 use Rattle.aa_vec.proofs.DrainLemmas.{closes}
-use Rattle.aa_vec.specs.Tail.{ShiftsDown}
+use Rattle.aa_vec.specs.Tail.{DropsAndCloses}
 use Rattle.aa_vec.specs.contracts.vec.drain.Drain.drop as f
 use Rattle.aa_vec.proofs.vec.drain.Drain.drop.Statement.{statement}
 use Rattle.aa_vec.proofs.vec.drain.Drain.drop.Code as code
@@ -37,7 +37,7 @@ drop_spec 𝓤 𝓛 𝓜 𝓡 wired T A LT LA G-A dA dT dD metA metT metD =
     (and_then ! (get ! refl) (and_then ! (get ! refl) (and_then ! (get ! refl) (and_then ! (get ! refl) (and_then ! (get ! refl) (no_more !)))))) (λ v.
     use1 𝓛 (later (some (λ (r : Unit {0}). (raw (alive 𝓛 S κs qs) ⊛ ‵ (unit.own_val r (v ∷ []))) ⊛
     some (λ (ws : Vector T.Denot A.Denot × (Unit {0} × (Unit {0} × (Unit {0} × (Unit {0} × Unit {0}))))). ‵ (lasts (g.ended T A G-A dA dD dT) κs z.0.3 ws) ⊛
-    raw (fact 𝓤 (ShiftsDown d.vec.now d.end (d.total - d.end) ws.0)))))) (id⊢ 𝓤 _) $ await ! tt $ pick ! (λ r. split ! $ split ! $ move ! (1 ∷ []) $ feq_l ! (λ is_unit.
+    raw (fact 𝓤 (DropsAndCloses d.vec.now (d.back - d.front) d.end (d.total - d.end) ws.0)))))) (id⊢ 𝓤 _) $ await ! tt $ pick ! (λ r. split ! $ split ! $ move ! (1 ∷ []) $ feq_l ! (λ is_unit.
     lands_as ! (ap only is_unit) refl (tt, tt) $ sets ! (of_opd ! (unit_lit !)) refl (tt, tt) $ returns ! (look_at ! 0 refl) $ free_all ! refl $
     -- [the tokens; what `drop_and_close` ensures]
     move ! (1 ∷ []) $ pick ! (λ ws. split ! $ move ! (1 ∷ []) $ heard ! _ (λ said.

@@ -8,9 +8,5 @@ loop-left-init g c = record { can = c.requires.callable; finite = c.requires.fin
 pub loop-left-preserved : goal.loop-left-preserved
 loop-left-preserved g c =
     let i = c.loop-left.invariant in let on = c.in-Some.ensures.goes.on i.finite in
-    record {
-      can = on.0;
-      finite = on.1;
-      placed = Placed-put _ _ _ _ _ _ _ c.loop-left.list i.placed (omega (arith, c.loop-left-test.true)) c.in-Some.x _ c.in-Some.ensures.steps c.put_next.new.self c.put_next.ensures.put c.put_next.ensures.spare;
-      fewer = omega (arith, i.fewer, on.2, c.loop-left-test.true);
-    }
+    let placed = Placed-put _ _ _ _ _ _ _ c.loop-left.list i.placed (omega (arith, c.loop-left-test.true)) c.in-Some.x _ c.in-Some.ensures.steps c.put_next.new.self c.put_next.ensures.put c.put_next.ensures.spare in
+    search (arith, on, placed, i.fewer, c.loop-left-test.true)

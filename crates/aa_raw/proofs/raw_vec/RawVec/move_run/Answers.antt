@@ -1,5 +1,0 @@
-use Rattle.aa_raw.proofs.{still}
-use Rattle.aa_raw.proofs.raw_vec.RawVec.move_run.Goals as goal
-
-pub returns-then-from-to : goal.returns-then-from-to
-returns-then-from-to g c = still c.args.self.now c.args.from c.args.to c.args.count c.if-from-to.true c.requires.0.0

@@ -1,0 +1,12 @@
+use Rattle.aa_vec.proofs.Common.{ap, arith, rules}
+use Rattle.aa_raw.proofs.Beyond.{none-fresh}
+use Rattle.aa_raw.proofs.Calls.{with_room}
+use Rattle.aa_vec.proofs.Tidy.{few-none}
+use Rattle.aa_vec.proofs.vec.Vec.split_off.Goals as goal
+
+-- the new block is empty
+pub invariant_of-self : goal.invariant_of-self
+invariant_of-self g c = record {
+  filled = search (rules, with_room);
+  few = rw (c.replace.ensures.after, c.in_ok-block.ensures.made) (few-none _ 0 _ _ (search (rules, none-fresh)) (omega (arith, ap (λ n. n.count) c.replace-then-at-eq0-2.ensures.after, c.zero-then-at-eq0.ensures)));
+}
