@@ -2,7 +2,8 @@
 use Rattle.aa_boxed.proofs.Costs.{Doubled, Doubled-grows, Doubled-put, Doubled-start, costs_to_collect}
 use Rattle.aa_boxed.specs.Slice.{CollectCost, empty_builder, shrunk, with_room}
 use Rattle.aa_raw.specs.Growths.{with_growth}
-use Rattle.aa_boxed.proofs.Common.{Count, LowerAtMost, AllocError, Building, Doubling, Err, IfErr, IfOk, LacksRoom, List, None, Ok, Option, Result, Slice, Some, FromIterFails, FailsAtEnd, TryReserveError, WholeRun, Yields, Yields-more, YieldsWithLower, YieldsThen, [], amortized, ap, arith, requested_with, finished, if◌then◌else◌, inl, min_capacity, length, length-append, nat_tests, refl, new_capacity, subst, sym, total_runs, usize_max, with_pushed, ℕ, ◌++◌, ◌+◌, ◌<◌, ◌==◌, ◌∙◌, ◌∷◌, ◌≡◌, ◌≤◌}
+use Rattle.std.specs.Prelude.{min}
+use Rattle.aa_boxed.proofs.Common.{Count, LowerAtMost, AllocError, Building, Doubling, Err, IfErr, IfOk, LacksRoom, List, None, Ok, Option, Result, Slice, Some, FromIterFails, FailsAtEnd, TryReserveError, WholeRun, Yields, Yields-more, YieldsWithLower, YieldsThen, [], amortized, ap, arith, finished, if◌then◌else◌, inl, min_capacity, length, length-append, nat_tests, refl, new_capacity, subst, sym, total_runs, usize_max, with_pushed, ℕ, ◌++◌, ◌+◌, ◌<◌, ◌==◌, ◌∙◌, ◌∷◌, ◌≡◌, ◌≤◌}
 
 -- n items that fill their capacity are no fewer than the places of a new block
 over_start : (size n : ℕ) → (size ≡ 0 → usize_max ≤ n) → n < new_capacity size 0 → ⊥
@@ -85,7 +86,7 @@ module _ {S T : Type 0} (steps : S → Option T → S → Type 0) where
             Coming-put f new refl refl refl (omega arith) (Doubled-put size f.capacity (length f.items) (left iter) f.grown p.cost) (e ∙ ap (λ b. with_pushed b x) same)
 
         -- or the full block grew for it and for as many as may follow
-        pub Coming-grown : length f.items ≡ f.capacity → (yields k : ℕ) → yields ≤ left t → k ≡ requested_with yields → (f.capacity < length f.items + k → 0 < size)
+        pub Coming-grown : length f.items ≡ f.capacity → (yields k : ℕ) → yields ≤ left t → k ≡ min (yields + 1) usize_max → (f.capacity < length f.items + k → 0 < size)
             → (w new : Building T A) → w ≡ with_room size f k → new ≡ with_pushed w x → Coming t new
         Coming-grown full yields k few asked sized w new is e =
             let n = length f.items in let c = amortized f.growth f.capacity (n + k) (min_capacity size) in
@@ -101,7 +102,7 @@ module _ {S T : Type 0} (steps : S → Option T → S → Type 0) where
           many : size ≡ 0 → usize_max ≤ length f.items
           many z = omega (arith, p.zst z, full)
 
-          pub Coming-fails : (remaining : S → Count) (yields : ℕ) → LowerAtMost remaining t yields → (k : ℕ) → k ≡ requested_with yields → (e : TryReserveError)
+          pub Coming-fails : (remaining : S → Count) (yields : ℕ) → LowerAtMost remaining t yields → (k : ℕ) → k ≡ min (yields + 1) usize_max → (e : TryReserveError)
               → LacksRoom size f.capacity (length f.items) k (amortized f.growth f.capacity (length f.items + k) (min_capacity size)) e → FromIterFails steps (LowerAtMost remaining) size iter e t
           Coming-fails remaining yields tells k asked e lacks = inl (record {
             taken = f.items ++ x ∷ [];

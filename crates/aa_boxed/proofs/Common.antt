@@ -3,7 +3,7 @@ pub use Rattle.aa_boxed.specs.Boxed.{value_of}
 pub use Rattle.aa_boxed.specs.Room.{IsExactFor}
 pub use Rattle.aa_boxed.specs.Slice.{Building, Slice, FromIterFails, FailsAtEnd, finished, shrunk, slice_of, with_pushed}
 pub use Rattle.aa_boxed.specs.BoxedSliceInner.{IsWhole}
-pub use Rattle.aa_boxed.specs.Hints.{LowerAtMost, YieldsWithLower, requested_with}
+pub use Rattle.aa_boxed.specs.Hints.{LowerAtMost, YieldsWithLower}
 pub use Rattle.aa_boxed.specs.Text.{StringReserveFails, AppendsTexts, FailsAtText, Text, appended_capacity, reserved_capacity}
 pub use Rattle.aa_boxed.specs.contracts.boxed.Box.{the_row}
 pub use Rattle.aa_raw.proofs.Beyond.{IsRun-forgot, forgot, length-forgot, none-forgot, none_there}

@@ -1,16 +1,11 @@
--- The lower bounds of size hints, and the capacity that is requested by them.
-use Rattle.std.specs.Prelude.{◌≡◌, ℕ, ◌+◌, ◌-◌, ◌^◌, min, List, [], ◌∷◌, length, Option, Some, None, ◌⊎◌}
+-- The lower bounds of size hints.
+use Rattle.std.specs.Prelude.{◌≡◌, ℕ, List, [], ◌∷◌, length, Option, Some, None, ◌⊎◌}
 use Rattle.std.specs.Iterator.{Count}
 use Rattle.std.specs.Iterator.SizeHint.{IsWithinCount}
 
 -- in the state `s` the lower bound of the size hint may be `n`, which is at most what remains
 abbrev pub LowerAtMost : {S : Type 0} → (S → Count) → S → ℕ → Type 0
 LowerAtMost remaining s n = IsWithinCount n (remaining s)
-
--- how many places are requested for an item that does not fit, if the lower bound of those after it
--- is `lower`
-abbrev pub requested_with : (lower : ℕ) → ℕ
-requested_with lower = min (lower + 1) (2 ^ 64 - 1)
 
 -- calls that led to `last` ended at `after`: there, or after one more call, which returned none
 abbrev pub EndsAt : {S T : Type 0} → (S → Option T → S → Type 0) → (last after : S) → Type 0

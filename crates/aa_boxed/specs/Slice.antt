@@ -1,8 +1,8 @@
 -- The model of a `BoxedSlice`, and of the builder that becomes one.
-use Rattle.std.specs.Prelude.{◌≡◌, ℕ, ◌+◌, ◌-◌, ◌*◌, ◌^◌, ◌<◌, ◌≤◌, ◌==◌, max, List, [], ◌∷◌, ◌++◌, length, nat_le, if◌then◌else◌, Option, None, Result, IfOk, IfErr, ◌⊎◌}
+use Rattle.std.specs.Prelude.{◌≡◌, ℕ, ◌+◌, ◌-◌, ◌*◌, ◌^◌, ◌<◌, ◌≤◌, ◌==◌, min, max, List, [], ◌∷◌, ◌++◌, length, nat_le, if◌then◌else◌, Option, None, Result, IfOk, IfErr, ◌⊎◌}
 use Rattle.std.specs.Iterator.{Count, YieldsThen, size as most_left}
 use Rattle.std.specs.Iterator.Runs.{WholeRun}
-use Rattle.aa_raw.specs.Growth.{amortized, min_capacity, new_capacity, usize_max}
+use Rattle.aa_raw.specs.Growth.{amortized, min_capacity, new_capacity}
 use Rattle.aa_raw.specs.Growths.{Growths, of_new, with_growth, with_shrink}
 use Rattle.aa_raw.specs.Room.{LacksRoom}
 use Rattle.aa_raw.specs.declared.collections.TryReserveError.{TryReserveError}
@@ -11,7 +11,7 @@ use Rattle.aa_raw.specs.declared.raw_vec.Growth.{Growth}
 use Rattle.aa_raw.specs.declared.raw_vec.Growth.TheVariants.{Doubling}
 use Rattle.aa_raw.specs.Block.{Block}
 use Rattle.aa_raw.specs.Places.{run}
-use Rattle.aa_boxed.specs.Hints.{LowerAtMost, Takes, requested_with}
+use Rattle.aa_boxed.specs.Hints.{LowerAtMost, Takes}
 
 -- a list that fills its block exactly; the block keeps its growth policy for the vector that the
 -- list may become
@@ -94,15 +94,13 @@ module _ {T A : Type 0} where
 module _ {S T : Type 0} (steps : S → Option T → S → Type 0) (LowerIs : S → ℕ → Type 0) (size : ℕ)
     (iter : S) (error : TryReserveError) (after : S) where
   -- `iter` yielded the items `placed`, of `size` bytes, and then `item`. Reserving capacity for it
-  -- and the lower bound of those after it failed with `error`
+  -- and the lower bound of those after it, or for `usize::MAX`, failed with `error`
   abbrev pub FailsAtItem : Type 0
   FailsAtItem = Takes steps LowerIs iter (λ lower xs last. (last ≡ after)
       × (placed : List T) × (item : T) × (xs ≡ placed ++ item ∷ [])
-      × (size ≡ 0 → usize_max ≤ length placed)
-      × LacksRoom size (length placed) (length placed) (requested_with (lower 0))
-      (amortized Doubling (length placed) (length placed + requested_with (lower 0))
-      (min_capacity size))
-      error)
+      × (size ≡ 0 → 2 ^ 64 - 1 ≤ length placed)
+      × let n = length placed in let more = min (lower 0 + 1) (2 ^ 64 - 1) in
+      LacksRoom size n n more (amortized Doubling n (n + more) (min_capacity size)) error)
 
   -- `iter` yielded all its items, one or more of `size` bytes, and then the allocation of a block
   -- for exactly these failed

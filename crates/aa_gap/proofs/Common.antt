@@ -13,7 +13,7 @@ pub use Rattle.aa_raw.proofs.Places.{length-moved, lengths}
 pub use Rattle.aa_raw.proofs.Runs.{IsRun-joined, IsRun-long, IsRun-part, IsRun-set-above, IsRun-set-below, length-run, run-drop, run-set-above, run-set-below, run-split, run-take}
 pub use Rattle.aa_raw.proofs.TwoRuns.{AreApart-before}
 pub use Rattle.aa_raw.specs.Growth.{amortized, min_capacity}
-pub use Rattle.aa_raw.specs.Growths.{FewBlocks, most_held, with_growth}
+pub use Rattle.aa_raw.specs.Growths.{FewBlocks, with_growth}
 pub use Rattle.aa_raw.specs.declared.raw_vec.Growth.{Growth}
 pub use Rattle.aa_raw.specs.declared.raw_vec.Growth.TheVariants.{Doubling, InPlace, Sparing}
 pub use Rattle.std.proofs.Common.{Bor, List, MatchOption, None, Option, Some, [], ap, append_assoc, arith, drop, inl, inr, insert, length, length-append, length-drop, length-set, length-take, length-take-le, max, min, option_copied, refl, remove, rules, slice_get, subst, sym, take, take-append-drop, ℕ, ◌*◌, ◌++◌, ◌+◌, ◌-◌, ◌∙◌, ◌∷◌, ◌≡◌, ◌≤◌}

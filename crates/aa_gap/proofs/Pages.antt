@@ -1,6 +1,6 @@
 -- What edits take, one after another, where the text fits into its places.
 use Rattle.std.proofs.lemmas.List.Sums.{fold-append}
-use Rattle.aa_gap.proofs.Common.{Buffer, DeleteBack, DeleteForward, Edit, Edits, FewBlocks, FewBlocks-grows, FewBlocks-more, FewBlocks-none, FewPlaces, FewPlaces-grows, FewPlaces-none, GrowsWithin, Growth, Insert, List, MoveTo, Page, [], amortized, ap, append_assoc, arith, cursor, drop, drop-append_seam, edited, fold, gap, insert, inserts, max, min_capacity, len, length, length-append, length-drop, length-take, min, most_held, moved_over, nat_tests, page, put, refl, remove, remove-append_right, rules, run_count, subst, sym, take, take-append-drop, take-append-le, take-append_seam, text, total, with_edit, with_growth, with_room, written_by, ℕ, ◌++◌, ◌+◌, ◌-◌, ◌∙◌, ◌∷◌, ◌≡◌, ◌≤◌}
+use Rattle.aa_gap.proofs.Common.{Buffer, DeleteBack, DeleteForward, Edit, Edits, FewBlocks, FewBlocks-grows, FewBlocks-more, FewBlocks-none, FewPlaces, FewPlaces-grows, FewPlaces-none, GrowsWithin, Growth, Insert, List, MoveTo, Page, [], amortized, ap, append_assoc, arith, cursor, drop, drop-append_seam, edited, fold, gap, insert, inserts, max, min_capacity, len, length, length-append, length-drop, length-take, min, moved_over, nat_tests, page, put, refl, remove, remove-append_right, rules, run_count, subst, sym, take, take-append-drop, take-append-le, take-append_seam, text, total, with_edit, with_growth, with_room, written_by, ℕ, ◌++◌, ◌+◌, ◌-◌, ◌∙◌, ◌∷◌, ◌≡◌, ◌≤◌}
 
 -- Edits, one after another, and what they leave of the text machine's page.
 module _ {T : Type 0} where
@@ -28,7 +28,10 @@ total-push : {T : Type 0} (by : Edit T → Page T → ℕ) (es : List (Edit T)) 
 total-push by [] e p = omega arith
 total-push by (d ∷ es) e p = omega (arith, total-push by es e (edited p d))
 
--- what growth holds at once is no less for more elements, and that of a full block is so much
+-- the places held at once while a block grows for the last of n elements, if it is full before: no fewer for more elements
+abbrev pub most_held : Growth → (n : ℕ) → ℕ
+most_held g n = n - 1 + amortized g (n - 1) n 8
+
 most_held-more : (g : Growth) (m n : ℕ) → m ≤ n → most_held g m ≤ most_held g n
 most_held-more g m n le = grind arith
 

@@ -66,7 +66,7 @@ module _ {T A : Type 0} where
   moved_to b position =
       let before = take position (text b) in let after = drop position (text b) in
       let passed = (cursor b - position) + (position - cursor b) in
-      with_written (with_parts b before after) (moved_over (gap b) passed)
+      with_written (with_parts b before after) (moved_over (b.capacity - len b) passed)
 
   -- `b` with the elements `xs` in place of its text, after the cursor moved to the end
   abbrev pub contiguous : Buffer T A → (xs : List T) → Buffer T A
@@ -81,9 +81,10 @@ module _ {T A : Type 0} where
   abbrev pub with_room : (size : ℕ) → Buffer T A → (k : ℕ) → Buffer T A
   with_room size b k =
       let c = amortized b.growth b.capacity (len b + k) (min_capacity size) in
+      let fits = nat_le k (b.capacity - len b) in
       record b {
-        capacity = if nat_le k (gap b) then b.capacity else c;
-        grown = if nat_le k (gap b) then b.grown else with_growth b.grown (len b) b.capacity c;
+        capacity = if fits then b.capacity else c;
+        grown = if fits then b.grown else with_growth b.grown (len b) b.capacity c;
       }
 
   -- `b` with `x` inserted before the cursor, in the first free place

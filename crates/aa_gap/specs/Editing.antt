@@ -1,7 +1,8 @@
 -- Gap buffers after edits.
 use Rattle.std.specs.Prelude.{◌≡◌, ℕ, ◌+◌, ◌-◌, ◌≤◌, min, max, List, [], ◌∷◌, ◌++◌, take, drop, fold, Option, None}
 use Rattle.std.specs.Iterator.{Yields, YieldsThen}
-use Rattle.aa_raw.specs.Growths.{FewBlocks, most_held}
+use Rattle.aa_raw.specs.Growth.{amortized}
+use Rattle.aa_raw.specs.Growths.{FewBlocks}
 use Rattle.aa_raw.specs.declared.collections.TryReserveError.{TryReserveError}
 use Rattle.aa_gap.specs.declared.gap_buffer.Edit.{Edit}
 use Rattle.aa_gap.specs.declared.gap_buffer.Edit.TheVariants.{Insert, DeleteBack, DeleteForward, MoveTo}
@@ -20,7 +21,8 @@ module _ {T A : Type 0} (size : ℕ) where
   -- `new` is `old` after these `edits`, one after another: exactly, with its capacity and its
   -- counters, and as a page. The length grew by at most one for each insert, and each edit wrote at
   -- most what `written_by` says, in one run at most. Growth moved at most what `GrowsWithin` says,
-  -- allocated few blocks, and held no more places at once than `most_held` says, or than before
+  -- allocated few blocks, and held no more places at once than before, or than the growth of a full
+  -- block for the last of so many elements
   pub record Edits (old : Buffer T A) (edits : List (Edit T)) (new : Buffer T A) : Type 0 where
     pub exact : new ≡ fold with_edit old edits
     pub leaves : page new ≡ fold edited (page old) edits
@@ -33,8 +35,8 @@ module _ {T A : Type 0} (size : ℕ) where
     pub grown : GrowsWithin old.growth old (inserts edits) new
     pub blocks : FewBlocks old.growth (new.grown.blocks - old.grown.blocks)
         (len old + inserts edits)
-    pub held : new.grown.held
-        ≤ max old.grown.held (most_held old.growth (len old + inserts edits))
+    pub held : let n = len old + inserts edits in
+        new.grown.held ≤ max old.grown.held (n - 1 + amortized old.growth (n - 1) n 8)
 
 module _ {T A : Type 0} where
   module _ {I : Type 0} (steps : I → Option (Edit T) → I → Type 0) (from : I)

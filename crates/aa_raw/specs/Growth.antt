@@ -9,7 +9,7 @@ usize_max = 2 ^ 64 - 1
 
 -- the capacity of a new block for `n` elements of `size` bytes: `usize::MAX` if they are zero-sized
 abbrev pub new_capacity : (size n : ℕ) → ℕ
-new_capacity size n = if size == 0 then usize_max else n
+new_capacity size n = if size == 0 then 2 ^ 64 - 1 else n
 
 -- the minimum capacity that an amortized growth requests, for elements of `size` bytes
 abbrev pub min_capacity : (size : ℕ) → ℕ

@@ -1,5 +1,5 @@
 -- What the memory of a block has cost so far.
-use Rattle.std.specs.Prelude.{ℕ, ◌+◌, ◌*◌, ◌/◌, ◌^◌, ◌≤◌, max, ◌==◌, if◌then◌else◌}
+use Rattle.std.specs.Prelude.{ℕ, ◌+◌, ◌*◌, ◌^◌, ◌≤◌, max, ◌==◌, if◌then◌else◌}
 use Rattle.aa_raw.specs.declared.raw_vec.Growth.{Growth}
 use Rattle.aa_raw.specs.declared.raw_vec.Growth.TheVariants.{Doubling, Sparing, InPlace}
 
@@ -37,10 +37,3 @@ abbrev pub FewBlocks : Growth → (blocks n : ℕ) → Type 0
 FewBlocks Doubling blocks n = 2 ^ blocks ≤ max 1 (4 * n)
 FewBlocks Sparing blocks n = 4 * 3 ^ blocks ≤ 2 ^ blocks * max 4 (9 * n)
 FewBlocks InPlace blocks n = 2 ^ blocks ≤ max 1 (4 * n)
-
--- the greatest number of places that growth by this policy holds at once for a list that never had
--- more than `n` elements: `n`, and beside these twice as many, or half more if sparing, but at least 8
-abbrev pub most_held : Growth → (n : ℕ) → ℕ
-most_held Doubling n = n + max 8 (2 * n)
-most_held Sparing n = n + max 8 (n + n / 2)
-most_held InPlace n = n + max 8 (2 * n)

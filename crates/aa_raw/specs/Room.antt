@@ -1,7 +1,6 @@
 -- Spare capacity of a block. The definitions are about numbers, so that a block, a vector and any
 -- other collection share them.
-use Rattle.std.specs.Prelude.{◌≡◌, ℕ, ◌-◌, ◌<◌, ◌==◌, if◌then◌else◌}
-use Rattle.aa_raw.specs.Growth.{usize_max}
+use Rattle.std.specs.Prelude.{◌≡◌, ℕ, ◌-◌, ◌^◌, ◌<◌, ◌==◌, if◌then◌else◌}
 use Rattle.aa_raw.specs.Errors.{error_for}
 use Rattle.aa_raw.specs.declared.collections.TryReserveError.{TryReserveError}
 
@@ -20,6 +19,6 @@ pub record LacksRoom (size capacity n k requested : ℕ) (error : TryReserveErro
   pub exact : error ≡ error_for size requested
 
 -- shrinking a block of `capacity` places, for elements of `size` bytes, to `n` places needs a new
--- block
+-- block: zero-sized ones have none, and `usize::MAX` places
 abbrev pub NeedsNewBlock : (size capacity n : ℕ) → Type 0
-NeedsNewBlock size capacity n = (0 < n) × (n < capacity) × (capacity < usize_max) × (0 < size)
+NeedsNewBlock size capacity n = (0 < n) × (n < capacity) × (capacity < 2 ^ 64 - 1) × (0 < size)

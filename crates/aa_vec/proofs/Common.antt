@@ -16,7 +16,7 @@ unfoldable pub use Rattle.aa_vec.specs.Tail.{count_from}
 pub use Rattle.aa_vec.specs.Tail.{ClosesGap, ClosesTwoGaps, DropsAndCloses, DropsTail, LeavesInTail, ShiftsDown, SetsTail, HasTail, tail_items, with_spare}
 pub use Rattle.aa_vec.specs.Choosing.{Call, CalledInOrder, ChainsFrom, Deduplicated, Deduplicates, EndsTrue, Equals, IsCallableAlong, IsCallableInOrder, IsPureTest, MayCallInOrder, MayChainFrom, MayDeduplicate, Reads, Retains, CallableAtKeys, CallableAtMut, results_of, kept, kept_after_removed, passed_over}
 pub use Rattle.aa_vec.specs.Copies.{AppendsClones, AppendsResults, AssignsPart, ClonesAreEqual, AppendsCopies, IsMade, IsMadeOfOne, MayCallTimes, AppendFails, RolledBack, WritesAtMost}
-pub use Rattle.aa_vec.specs.Extend.{GrowsInSteps, YieldsCopies, CollectResult, ExtendResult, HasCollected, HasExtended, Extends, RemainingItems, EndsAt, Takes, LowerAtMost, LowerExactly, YieldsWithLower, requested_with, takes_item, grows, lower_bound_of, unchanged}
+pub use Rattle.aa_vec.specs.Extend.{GrowsInSteps, YieldsCopies, CollectResult, ExtendResult, HasCollected, HasExtended, Extends, RemainingItems, EndsAt, Takes, LowerAtMost, LowerExactly, YieldsWithLower, takes_item, grows, lower_bound_of, unchanged}
 pub use Rattle.aa_vec.specs.Extract.{ClosesExtract, Extracted, Extracts, ExtractsAlong, ExtractsRange, extract_count, extract_kept, extract_remaining, extract_tail, extract_vec}
 pub use Rattle.aa_vec.specs.Filling.{FillsAndCloses, FillsGap, Collects, LacksRest, OpensGap, Placed, Puts, PutsAll, PutsFront, PutsRest, WidensGap, YieldsForGap}
 pub use Rattle.aa_vec.specs.VecInner.{IsFront, IsWhole, view_of}

@@ -1,5 +1,5 @@
 -- Items collected in a vector of their own, and what was requested if they could not be.
-use Rattle.aa_vec.proofs.Common.{◌≡◌, ℕ, ◌+◌, ◌-◌, ◌<◌, List, [], ◌∷◌, ◌++◌, length, Option, None, refl, suc, sym, ap, cases_lt, ◌∙◌, subst, arith, inl, inr, length-append, min, append-nil, TryReserveError, Doubling, amortized, min_capacity, usize_max, Vector, len, IsNew, LacksRoom, GrowsTo, GrowsInSteps, Ok, Err, Extends, Takes, Collects, LacksOthers, LacksRest, requested_with, Becomes, with_room, nat_tests}
+use Rattle.aa_vec.proofs.Common.{◌≡◌, ℕ, ◌+◌, ◌-◌, ◌<◌, List, [], ◌∷◌, ◌++◌, length, Option, None, refl, suc, sym, ap, cases_lt, ◌∙◌, subst, arith, inl, inr, length-append, min, append-nil, TryReserveError, Doubling, amortized, min_capacity, usize_max, Vector, len, IsNew, LacksRoom, GrowsTo, GrowsInSteps, Ok, Err, Extends, Takes, Collects, LacksOthers, LacksRest, Becomes, with_room, nat_tests}
 use Rattle.aa_raw.specs.Errors.{IsErrorFor}
 use Rattle.aa_vec.proofs.Becoming.{GrowsTo-becomes, SameBlock-becomes}
 use Rattle.aa_vec.proofs.GrowthLemmas.{MakesRoom, MakesRoom-unchanged, SameBlock-refl, Extends-items, GrowsInSteps-counted, GrowsInSteps-first, in_block}
@@ -61,7 +61,7 @@ module _ {S T A : Type 0} (steps : S → Option T → S → Type 0) (LowerIs : S
             | inr h ↦ GrowsInSteps-counted size f.0 f.0 needed 0 needed (MakesRoom-unchanged size (len made) wanted made v g.room (omega (arith, h))) (omega arith) (λ k _. ap f.0 (omega arith)) rest
             | inl h ↦
                 let none : made.capacity ≡ 0 = no_places (omega (arith, h, ap length new.items)) in
-                let asked : wanted ≡ requested_with (f.0 (needed - made.capacity - 1)) = is ∙ ap (λ k. min (k + 1) usize_max) (sym f.2 ∙ ap f.0 (omega (arith, none))) in
+                let asked : wanted ≡ min (f.0 (needed - made.capacity - 1) + 1) usize_max = is ∙ ap (λ k. min (k + 1) usize_max) (sym f.2 ∙ ap f.0 (omega (arith, none))) in
                 GrowsInSteps-first size f.0 needed (omega (arith, none)) (rw (← asked) (subst (λ k. MakesRoom size made k wanted v) {x = len made} {y = made.capacity} (omega (arith, ap length new.items, none)) g.room)) rest
           ] in
           let full : Extends size f.0 made [] (first ∷ taken) (Err error) x = grind (arith, stop, in_steps, one) in

@@ -1,6 +1,6 @@
 -- Lemmas on a vector that grew while it was full.
 use Rattle.aa_raw.specs.Growths.{with_growth}
-use Rattle.aa_vec.proofs.Common.{◌≡◌, ℕ, ◌+◌, ◌-◌, ◌<◌, ◌≤◌, List, ◌++◌, length, append_assoc, append-nil, Ok, Extends, refl, ap, ◌∙◌, subst, arith, min, usize_max, amortized, min_capacity, Vector, SameBlock, Holds, with_room, GrowsInSteps, unchanged, grows, nat_tests, requested_with}
+use Rattle.aa_vec.proofs.Common.{◌≡◌, ℕ, ◌+◌, ◌-◌, ◌<◌, ◌≤◌, List, ◌++◌, length, append_assoc, append-nil, Ok, Extends, refl, ap, ◌∙◌, subst, arith, min, usize_max, amortized, min_capacity, Vector, SameBlock, Holds, with_room, GrowsInSteps, unchanged, grows, nat_tests}
 
 module _ {T A : Type 0} where
   pub SameBlock-refl : (v : Vector T A) → SameBlock v v
@@ -60,7 +60,7 @@ module _ {T A : Type 0} where
   module _ (size : ℕ) (lower : ℕ → ℕ) (needed : ℕ) (v : Vector T A) where
     -- the capacity that v requests while it is full, and what it grows to then
     abbrev pub asks : ℕ
-    asks = requested_with (lower (needed - v.capacity - 1))
+    asks = min (lower (needed - v.capacity - 1) + 1) usize_max
 
     abbrev pub grown_by : Vector T A
     grown_by = with_room size v v.capacity asks

@@ -1,13 +1,13 @@
 -- A vector to which the items of an iterator are appended one by one, and the lower bounds that the
 -- iterator returns of how many remain.
-use Rattle.std.specs.Prelude.{◌≡◌, ℕ, ◌+◌, ◌-◌, ◌<◌, ◌≤◌, List, [], ◌++◌, length, map, Option, Some, None, Result, Ok, Err, IfOk, IfErr, OnOk}
+use Rattle.std.specs.Prelude.{◌≡◌, ℕ, ◌+◌, ◌-◌, ◌^◌, min, ◌<◌, ◌≤◌, List, [], ◌++◌, length, map, Option, Some, None, Result, Ok, Err, IfOk, IfErr, OnOk}
 use Rattle.std.specs.Borrow.{Bor}
 use Rattle.std.specs.Iterator.{YieldsFirst, Drains}
 use Rattle.std.specs.Iterator.Runs.{WholeRun}
 use Rattle.aa_raw.specs.Growth.{amortized, min_capacity}
 use Rattle.aa_raw.specs.Room.{LacksRoom}
 use Rattle.aa_raw.specs.declared.collections.TryReserveError.{TryReserveError}
-pub use Rattle.aa_boxed.specs.Hints.{LowerAtMost, requested_with, EndsAt, YieldsWithLower, Takes}
+pub use Rattle.aa_boxed.specs.Hints.{LowerAtMost, EndsAt, YieldsWithLower, Takes}
 use Rattle.aa_raw.specs.declared.raw_vec.Growth.TheVariants.{Doubling}
 use Rattle.aa_vec.specs.Vector.{Vector, IsNew, with_room}
 
@@ -30,7 +30,7 @@ lower_bound_of (Some hint) left = hint
 module _ {T A : Type 0} where
   -- `old`, of elements of `size` bytes, grew any number of times while it was full and had no
   -- capacity for `needed`, and `new` has its block. Each growth requested capacity for the first
-  -- item without a place and for `lower k` more, where k others had none
+  -- item without a place and for `lower k` more, where k others had none, or for `usize::MAX`
   pub data GrowsInSteps (size : ℕ) (lower : ℕ → ℕ) (needed : ℕ) : Vector T A → Vector T A
       → Type 0 where
     unchanged : {old new : Vector T A}
@@ -44,7 +44,8 @@ module _ {T A : Type 0} where
         → GrowsInSteps size lower needed old new
     grows : {old new : Vector T A} → old.capacity < needed
         → GrowsInSteps size lower needed
-        (with_room size old old.capacity (requested_with (lower (needed - old.capacity - 1)))) new
+        (with_room size old old.capacity (min (lower (needed - old.capacity - 1) + 1) (2 ^ 64 - 1)))
+        new
         → GrowsInSteps size lower needed old new
 
   -- `new` has `xs` and after it `front`, a beginning of `added`, in the block of `old` or the first
@@ -61,7 +62,7 @@ module _ {T A : Type 0} where
     pub fits : length xs + length front ≤ new.capacity
     pub all : OnOk result (others ≡ [])
     pub error : IfErr result (λ e.
-        let more = requested_with (lower (length others - 1)) in
+        let more = min (lower (length others - 1) + 1) (2 ^ 64 - 1) in
         (0 < length others) × (length xs + length front ≡ new.capacity)
         × LacksRoom size new.capacity (length new.items) more
         (amortized new.growth new.capacity (length new.items + more) (min_capacity size)) e)

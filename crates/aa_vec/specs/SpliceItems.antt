@@ -1,6 +1,6 @@
 -- A range of a vector that is replaced by the items of an iterator, one by one, in capacity
 -- reserved by its lower bounds.
-use Rattle.std.specs.Prelude.{◌≡◌, ℕ, ◌+◌, ◌-◌, ◌*◌, ◌<◌, ◌≤◌, List, [], ◌++◌, length, None, if◌then◌else◌, ◌==◌, ◌⊎◌, Result, Ok, Err, IfErr, OnOk, IsOk}
+use Rattle.std.specs.Prelude.{◌≡◌, ℕ, ◌+◌, ◌-◌, ◌*◌, ◌^◌, min, ◌<◌, ◌≤◌, List, [], ◌++◌, length, None, if◌then◌else◌, ◌==◌, ◌⊎◌, Result, Ok, Err, IfErr, OnOk, IsOk}
 use Rattle.std.specs.Iterator.{IsFinite, Yields, Drains, size as count}
 use Rattle.std.specs.Iterator.Runs.{WholeRun}
 use Rattle.std.specs.declared.iter.Iterator.{Ghosts}
@@ -9,7 +9,7 @@ use Rattle.aa_raw.specs.declared.raw_vec.Growth.TheVariants.{Doubling}
 use Rattle.aa_raw.specs.Growth.{amortized, min_capacity, new_capacity}
 use Rattle.aa_raw.specs.Errors.{IsErrorFor}
 use Rattle.aa_vec.specs.Vector.{Vector, HasRoom, SameBlock, LacksRoom, run_count, with_room}
-use Rattle.aa_vec.specs.Extend.{Extends, Takes, requested_with}
+use Rattle.aa_vec.specs.Extend.{Extends, Takes}
 
 -- a vector from which a range was taken, in its block: the elements before the range, how many
 -- places it has, and the elements after it
@@ -37,8 +37,8 @@ module _ {T A : Type 0} where
   abbrev pub LacksOthers : (fails whole : Type 0) (size : ℕ) (lower : ℕ → ℕ) → Vector T A → List T
       → TryReserveError → Type 0
   LacksOthers fails whole size lower v others error =
-      ((fails × IsErrorFor error
-      (amortized Doubling 0 (requested_with (lower (length others - 1))) (min_capacity size)))
+      ((fails × let more = min (lower (length others - 1) + 1) (2 ^ 64 - 1) in
+      IsErrorFor error (amortized Doubling 0 more (min_capacity size)))
       ⊎ ((made : Vector T A) × (full : Vector T A) × (made.capacity ≡ new_capacity size 0)
       × (made.growth ≡ Doubling) × Extends size lower made [] others (Err error) full))
       ⊎ (whole × LacksRoom size v (length others) error)

@@ -3,7 +3,7 @@ use Rattle.allocator_api2.proofs.Common.{◌≡◌, ℕ, ◌+◌, ◌*◌, ◌-�
 use Rattle.std.specs.Prelude.{◌/◌}
 use Rattle.aa_raw.specs.declared.raw_vec.Growth.TheVariants.{InPlace, Sparing}
 use Rattle.aa_raw.specs.Growth.{amortized}
-use Rattle.aa_raw.specs.Growths.{FewBlocks, Growths, most_held}
+use Rattle.aa_raw.specs.Growths.{FewBlocks, Growths}
 use Rattle.aa_raw.proofs.Costs.{FewPlaces, FewPlaces-grows, FewBlocks-grows, FewBlocks-more}
 use Rattle.aa_gap.proofs.Pages.{min_capacity-le}
 use Rattle.aa_vec.proofs.GrowthLemmas.{MakesRoom, MakesRoom-fits, MakesRoom-grows, MakesRoom-rises}
@@ -19,18 +19,19 @@ all_pays G paid g c n k h lt p = grind arith
 
 -- the most places that a growth requests, from fewer than `most`, if no more than `most` are needed
 abbrev pub places_for : Growth → (most : ℕ) → ℕ
-places_for Doubling most = 2 * most
-places_for Sparing most = most + most / 2 - 1
-places_for InPlace most = 2 * most
+places_for G most = amortized G (most - 1) most 8
 
-pub places_for-le : (G : Growth) (most : ℕ) → places_for G most ≤ 2 * most
+pub places_for-le : (G : Growth) (most : ℕ) → places_for G most ≤ max 8 (2 * most)
 places_for-le G most = grind arith
 
-pub most_held-places : (G : Growth) (most : ℕ) → most + max 8 (places_for G most) ≤ most_held G most
-most_held-places G most = grind arith
+pub places_for-sparing : (most : ℕ) → places_for Sparing most ≤ max 8 (most + most / 2 - 1)
+places_for-sparing most = omega arith
 
-amortized-within : (G : Growth) (c needed m most : ℕ) → c < needed → needed ≤ most → m ≤ 8 → amortized G c needed m ≤ max 8 (places_for G most)
+amortized-within : (G : Growth) (c needed m most : ℕ) → c < needed → needed ≤ most → m ≤ 8 → amortized G c needed m ≤ places_for G most
 amortized-within G c needed m most lt h e = grind arith
+
+places_for-more : (G : Growth) (most k : ℕ) → most ≤ k → places_for G most ≤ places_for G k
+places_for-more G most k le = grind arith
 
 -- beside what was moved and allocated before, `n` added elements pay for what was moved and allocated by now
 pub record Pays (G : Growth) (before : Growths) (n : ℕ) (growth : Growth) (capacity : ℕ) (now : Growths) : Type 0 where
@@ -41,12 +42,12 @@ pub record Pays (G : Growth) (before : Growths) (n : ℕ) (growth : Growth) (cap
   pub for_places : FewPlaces G (now.blocks - before.blocks) capacity
   pub few : FewBlocks G (now.blocks - before.blocks) n
 
--- a block has no more than 8 places, or as its growth made them for the greatest length; and no more than these beside that length
--- were held at once, or `before`
+-- a block has no more places than a growth makes for the greatest length; and no more than these beside a block one shorter were held
+-- at once, or `before`
 pub record HasFew (G : Growth) (before most : ℕ) (growth : Growth) (capacity now : ℕ) : Type 0 where
   pub same : growth ≡ G
-  pub places : capacity ≤ max 8 (places_for G most)
-  pub held : now ≤ max before (most + max 8 (places_for G most))
+  pub places : capacity ≤ places_for G most
+  pub held : now ≤ max before (most - 1 + places_for G most)
 
 Pays-more : {G : Growth} {before : Growths} (n k : ℕ) {growth : Growth} {c : ℕ} {now : Growths} → n ≤ k → Pays G before n growth c now → Pays G before k growth c now
 Pays-more {G} {before} n k {now = now} le p =
@@ -100,12 +101,12 @@ module _ {T A : Type 0} (size : ℕ) where
         let few : n + more ≤ most = omega (arith, h, told none, Moves-rises r, MakesRoom-fits size n more u mid m (omega (arith, w, MakesRoom-rises size n more u mid m))) in
         let b = MakesRoom-grows size n more u mid m (omega (arith, w, some)) in let least = min_capacity size in
         let places : mid.capacity ≡ amortized G u.capacity (n + more) least = b.0 ∙ ap (λ x. amortized x u.capacity (n + more) least) p.same in
-        let within : mid.capacity ≤ max 8 (places_for G most) = rw places (amortized-within G u.capacity (n + more) least most some few (min_capacity-le size)) in
+        let within : mid.capacity ≤ places_for G most = rw places (amortized-within G u.capacity (n + more) least most some few (min_capacity-le size)) in
         let held : mid.grown.held ≡ max u.grown.held (u.capacity + mid.capacity) = ap (λ (g : Growths). g.held) b.1 ∙ ap (λ c. max u.grown.held (u.capacity + c)) (sym b.0) in
         all_placed most none r h (record { same = m.growth ∙ p.same; places = within; held = omega (arith, held, within, some, few, p.held) })
 
     pub IsPlaced-change : (hint : Option ℕ) → hint ≡ None → (most k : ℕ) (old new : Vector T A) → IsPlaced most old → Change size hint old k new → IsPlaced (max most (len new)) new
     IsPlaced-change hint none most k old new p c =
-        let more : places_for G most ≤ places_for G (max most (len new)) = grind arith in
+        let more = places_for-more G most (max most (len new)) (omega arith) in
         let few : HasFew G before (max most (len new)) old.growth old.capacity old.grown.held = record { same = p.few.same; places = omega (arith, p.few.places, more); held = omega (arith, p.few.held, more) } in
         record { fits = c.fits p.fits; few = all_placed (max most (len new)) none (c.moves p.fits) (omega (arith, c.full)) few }

@@ -2,7 +2,7 @@
 use Rattle.allocator_api2.proofs.Common.{ℕ, ◌≡◌, ◌≤◌, max, List, [], ◌∷◌, ◌++◌, map, sym, subst, arith, ◌∙◌, append_assoc, refl, AllByRecursion, append-nil, Command, Reply, State, Calls, IsPossible, PerformsStep, Turn, IsRun, RunsWithin, AddsOrRemoves}
 use Rattle.std.proofs.lemmas.List.{map-append}
 use Rattle.allocator_api2.specs.Run.{greatest_length}
-use Rattle.allocator_api2.proofs.Paid.{most_held-places, places_for, places_for-le}
+use Rattle.allocator_api2.proofs.Paid.{places_for, places_for-le, places_for-sparing}
 use Rattle.allocator_api2.proofs.WholeRuns.{IsUnhinted, paid_from_empty, placed_from_empty, writes_law}
 
 module _ {T A K S : Type 0} (size : ℕ) (calls : Calls T A K S) where
@@ -41,8 +41,8 @@ module _ {T A K S : Type 0} (size : ℕ) (calls : Calls T A K S) where
           growth = λ empty plain. (paid empty plain).moved;
           blocks = λ empty plain. (paid empty plain).few;
           capacity = λ empty none plain. omega (arith, (placed empty none plain).places, places_for-le g most);
-          sparing = λ grows empty none plain. subst (λ g. now.main.capacity ≤ max 8 (places_for g most)) grows (placed empty none plain).places;
-          held = λ empty none plain. omega (arith, (placed empty none plain).held, most_held-places g most);
+          sparing = λ grows empty none plain. omega (arith, subst (λ g. now.main.capacity ≤ places_for g most) grows (placed empty none plain).places, places_for-sparing most);
+          held = λ empty none plain. (placed empty none plain).held;
           writes = writes_law size calls old h.turns now h.run;
         },
       )

@@ -1,8 +1,11 @@
 -- A splice that failed did not fit.
 use Rattle.allocator_api2.proofs.Common.{◌≡◌, ℕ, ◌+◌, ◌-◌, ◌<◌, ◌≤◌, List, ◌++◌, length, take, drop, ap, ◌∙◌, arith, inl, inr, ◌⊎◌, length-append, length-take, length-drop, TryReserveError, Vector, len, SpliceFails}
-use Rattle.aa_vec.specs.SpliceItems.{SplicesFront}
-use Rattle.allocator_api2.specs.Machine.{FitsRange, without_range}
+use Rattle.aa_vec.specs.SpliceItems.{Gapped, SplicesFront, gapped}
+use Rattle.allocator_api2.specs.Machine.{FitsRange}
 use Rattle.allocator_api2.proofs.ExtendErrors.{stops-full}
+
+abbrev pub without_range : {T A : Type 0} → Vector T A → (start end : ℕ) → Gapped T A
+without_range v start end = gapped v (take start v.items) (end - start) (drop end v.items)
 
 module _ {T A : Type 0} (size : ℕ) (lower : ℕ → ℕ) (old : Vector T A) (start end : ℕ) (ordered : start ≤ end) (within : end ≤ len old) (added : List T) (error : TryReserveError) (new : Vector T A) where
   ends : (length (take start old.items) ≡ start) × (length (drop end old.items) ≡ len old - end)

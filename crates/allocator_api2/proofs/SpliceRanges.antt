@@ -7,8 +7,7 @@ use Rattle.aa_vec.specs.declared.vec.drain.Drain.{Drain}
 use Rattle.aa_vec.proofs.Counted.{items_lower}
 use Rattle.aa_vec.proofs.SpliceByItems.{SplicesByAll, SplicesByFront, cut_off, SplicesAll-items, SpliceFails-items, SplicesAll-from, SpliceFails-from}
 use Rattle.allocator_api2.proofs.ByKind.{failed_by_kind}
-use Rattle.allocator_api2.proofs.SpliceErrors.{short-full}
-use Rattle.allocator_api2.specs.Machine.{without_range}
+use Rattle.allocator_api2.proofs.SpliceErrors.{short-full, without_range}
 
 module _ {T A : Type 0} (size : ℕ) (old : Vector T A) (start end : ℕ) (ordered : start ≤ end) (within : end ≤ len old)
     (items : Vector T A) (hint : Option ℕ) (d : Drain T A) (drains : TakesRange old start end d)

@@ -1,18 +1,17 @@
 -- The list machine: a reference model of two vectors, as lists with capacities, and its commands.
 use denote.Ref.{MutBor}
 use denote.Param.Members.{Mut}
-use Rattle.std.specs.Prelude.{◌≡◌, ℕ, ◌+◌, ◌-◌, ◌<◌, ◌≤◌, min, max, Bool, ◌==◌, List, [], ◌∷◌, ◌++◌, length, take, drop, replicate, insert, remove, swap_remove, slice_get, slice_range, reverse, if◌then◌else◌, Some, ◌⊎◌, Ok, Err, ⊤}
+use Rattle.std.specs.Prelude.{◌≡◌, ℕ, ◌+◌, ◌-◌, ◌^◌, ◌<◌, ◌≤◌, min, max, Bool, ◌==◌, List, [], ◌∷◌, ◌++◌, length, take, drop, replicate, insert, remove, swap_remove, slice_get, slice_range, reverse, if◌then◌else◌, Some, ◌⊎◌, Ok, Err, ⊤}
 use Rattle.std.specs.Fn.{CalledAtMut, CalledAtPairMut}
 use Rattle.aa_raw.specs.Closures.{CallableAtPairMut}
 use Rattle.aa_raw.specs.declared.collections.TryReserveError.{TryReserveError}
 use Rattle.aa_raw.specs.declared.collections.TryReserveErrorKind.TheVariants.{AllocError}
 use Rattle.aa_raw.specs.Errors.{ClonesFail}
-use Rattle.aa_raw.specs.Growth.{usize_max}
 use Rattle.aa_vec.specs.Vector.{Vector, len, HasRoom, LacksRoom, LacksExactRoom, GrowsTo, Holds, Becomes, run_count, with_room, with_exact_room, with_less}
 use Rattle.aa_vec.specs.Split.{Splits}
 use Rattle.aa_vec.specs.Choosing.{Call, CalledInOrder, EndsTrue, CallableAtMut, Retains, Deduplicates, results_of, kept, passed_over}
 use Rattle.aa_vec.specs.Extend.{Extends, lower_bound_of}
-use Rattle.aa_vec.specs.SpliceItems.{Gapped, gapped, SplicesAll, SpliceFails}
+use Rattle.aa_vec.specs.SpliceItems.{gapped, SplicesAll, SpliceFails}
 use Rattle.allocator_api2.specs.declared.runner.Command.{Command}
 use Rattle.allocator_api2.specs.declared.runner.Command.TheVariants.{Push, Within, Pop, Insert, Remove, SwapRemove, Truncate, Clear, Reserve, ReserveExact, ShrinkTo, SplitOff, Append, Extend, ExtendFromWithin, Resize, Retain, Dedup, Drain, ExtractIf, Splice}
 use Rattle.allocator_api2.specs.declared.runner.Reply.{Reply}
@@ -58,10 +57,6 @@ remaining_of xs ends keep =
     let middle = slice_range xs ends.start ends.end in
     let rest = slice_range middle ends.front (ends.end - ends.start - ends.back) in
     take ends.start xs ++ ((if keep then rest else []) ++ drop ends.end xs)
-
--- `v` without the elements from `start` up to `end`, whose places are kept as a gap
-abbrev pub without_range : {T A : Type 0} → Vector T A → (start end : ℕ) → Gapped T A
-without_range v start end = gapped v (take start v.items) (end - start) (drop end v.items)
 
 -- replacing the range of `v` with `n` items, of which `lower` is the lower bound, does not
 -- allocate. Either nothing follows the range, and they fit after its head. Or they are fewer than
@@ -112,7 +107,7 @@ module _ {T A : Type 0} where
   Fits main side (Reserve k) = HasRoom main k
   Fits main side (ReserveExact k) = HasRoom main k
   Fits main side (ShrinkTo k) =
-      (main.capacity ≤ max (len main) k) ⊎ (max (len main) k ≡ 0) ⊎ (main.capacity ≡ usize_max)
+      (main.capacity ≤ max (len main) k) ⊎ (max (len main) k ≡ 0) ⊎ (main.capacity ≡ 2 ^ 64 - 1)
   Fits main side (SplitOff at) = ⊥
   Fits main side Append = HasRoom main (len side)
   Fits main side (Extend items hint) = HasRoom main (len items)
@@ -193,7 +188,9 @@ module _ {T A : Type 0} (size : ℕ) where
       let k = n - len main in
       Becomes (with_room size main (len main) k) (take n main.items ++ replicate k x) k k main'
   SucceedsOnMain main (Splice start end items hint) Done main' =
-      SplicesAll size (lower_bound_of hint) (without_range main start end) items.items main'
+      let xs = main.items in
+      let rest = gapped main (take start xs) (end - start) (drop end xs) in
+      SplicesAll size (lower_bound_of hint) rest items.items main'
   -- it returns no other reply
   SucceedsOnMain main command reply main' = ⊥
 
@@ -242,9 +239,9 @@ module _ {T A : Type 0} (size : ℕ) where
   FailsWith sure main side (ExtractIf start end count) error main' =
       LacksRoom size side (min count (end - start)) error × (main' ≡ main)
   FailsWith sure main side (Splice start end items hint) error main' =
-      SpliceFails size (lower_bound_of hint)
-      (without_range main start end) items.items (¬ sure) ⊤ error
-      main'
+      let xs = main.items in
+      let rest = gapped main (take start xs) (end - start) (drop end xs) in
+      SpliceFails size (lower_bound_of hint) rest items.items (¬ sure) ⊤ error main'
   -- no other command fails
   FailsWith sure main side command error main' = ⊥
 
@@ -263,9 +260,9 @@ module _ {T A : Type 0} (size : ℕ) where
 -- neither vector has more elements than places, or more than `usize::MAX` places
 pub record IsPossible {T A : Type 0} (main side : Vector T A) : Type 0 where
   pub main_within : len main ≤ main.capacity
-  pub main_countable : main.capacity ≤ usize_max
+  pub main_countable : main.capacity ≤ 2 ^ 64 - 1
   pub side_within : len side ≤ side.capacity
-  pub side_countable : side.capacity ≤ usize_max
+  pub side_countable : side.capacity ≤ 2 ^ 64 - 1
 
 -- what the calls of other code in a run may do: the calls of the two closures, and the clones of
 -- the allocator

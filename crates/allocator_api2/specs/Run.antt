@@ -1,7 +1,8 @@
 -- Whole runs of the list machine, and the elements that they move and write.
 use Rattle.std.specs.Prelude.{◌≡◌, ℕ, ◌+◌, ◌-◌, ◌*◌, ◌/◌, ◌≤◌, max, Bool, not, List, [], ◌∷◌, map, slice_range, sum_by, if◌then◌else◌, Option, None, ⊤}
 use Rattle.std.specs.List.{AllByRecursion}
-use Rattle.aa_raw.specs.Growths.{FewBlocks, most_held}
+use Rattle.aa_raw.specs.Growth.{amortized}
+use Rattle.aa_raw.specs.Growths.{FewBlocks}
 use Rattle.aa_raw.specs.declared.raw_vec.Growth.{Growth}
 use Rattle.aa_raw.specs.declared.raw_vec.Growth.TheVariants.{Doubling, Sparing, InPlace}
 use Rattle.aa_vec.specs.Choosing.{IsCallableInOrder, IsCallableAlong, kept_after_removed}
@@ -163,12 +164,13 @@ module _ {T A K S : Type 0} (size : ℕ) (calls : Calls T A K S) (old : State T 
         → AllByRecursion (λ command. AddsOrRemoves command × (hint_of command ≡ None)) commands
         → let most = greatest_length run.turns in
         new.main.capacity ≤ max 8 (most + most / 2 - 1)
-    -- and at any time it held at most three times as many places as the greatest length, or two and
-    -- a half times as many if sparing
+    -- and at any time it held at most as many places as the growth of a full block for the last
+    -- element of the greatest length: three times that length, or two and a half times if sparing
     pub held : old.main.items ≡ [] → old.main.capacity ≡ 0
         → AllByRecursion (λ command. AddsOrRemoves command × (hint_of command ≡ None)) commands
-        → new.main.grown.held
-        ≤ max old.main.grown.held (most_held old.main.growth (greatest_length run.turns))
+        → let most = greatest_length run.turns in
+        new.main.grown.held
+        ≤ max old.main.grown.held (most - 1 + amortized old.main.growth (most - 1) most 8)
     -- no more elements of main were written than the commands cost
     pub writes : new.main.written ≤ old.main.written + sum_by cost run.turns
 

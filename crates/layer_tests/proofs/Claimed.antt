@@ -1,6 +1,6 @@
 -- What worked examples come to, in numbers.
 use Rattle.std.proofs.Common.{◌≡◌, ℕ, Bool, true, false, nat_lt, zero, suc, ◌+◌, ◌-◌, ◌*◌, ◌<◌, ◌≤◌, List, [], ◌∷◌, ◌++◌, length, take, drop, Option, Some, None, Ok, refl, length-append, sym, ap, ◌∙◌, subst, arith}
-use Rattle.std.specs.Prelude.{slice_range, if◌then◌else◌, ◌==◌, max}
+use Rattle.std.specs.Prelude.{slice_range, if◌then◌else◌, ◌==◌, ◌^◌, min, max}
 use Rattle.std.proofs.lemmas.List.{take_at}
 use Rattle.std.proofs.lemmas.Bool.Decides.{nat_tests}
 use Rattle.aa_raw.specs.declared.raw_vec.Growth.{Growth}
@@ -8,7 +8,7 @@ use Rattle.aa_raw.specs.declared.raw_vec.Growth.TheVariants.{Doubling, Sparing}
 use Rattle.aa_raw.specs.Growth.{amortized, usize_max}
 use Rattle.aa_raw.specs.Growths.{Growths, with_growth}
 use Rattle.aa_vec.specs.Vector.{Vector, len, Becomes, Holds, with_room}
-use Rattle.aa_vec.specs.Extend.{GrowsInSteps, unchanged as no_more, grows as once_more, Extends, requested_with, RemainingItems, takes_item, lower_bound_of, LowerExactly, Takes}
+use Rattle.aa_vec.specs.Extend.{GrowsInSteps, unchanged as no_more, grows as once_more, Extends, RemainingItems, takes_item, lower_bound_of, LowerExactly, Takes}
 use Rattle.aa_vec.specs.Drain.{TakesRange, KeepsRest, drain_vec, drain_remaining, drain_tail, range_len, taken_front, taken_back, drains_first, drains_last}
 use Rattle.aa_vec.specs.SpliceItems.{SplicesAll, tail_moves}
 use Rattle.aa_vec.specs.declared.vec.drain.Drain.{Drain}
@@ -149,7 +149,7 @@ module _ {T A : Type 0} (old v : Vector T A) (k : ℕ) where
       (all.capacity, omega (arith, ap (λ h. h.moved) cost), omega (arith, ap (λ h. h.blocks) cost), omega (arith, ap (λ h. h.held) cost))
 
 -- a full vector of c places that asks for room for 6 more
-grows_once : {T A : Type 0} (lower : ℕ → ℕ) (needed c : ℕ) (v w : Vector T A) → v.capacity ≡ c → v.growth ≡ Doubling → c < needed → ((n : ℕ) → requested_with (lower (n - 1)) ≡ 6) → needed ≤ w.capacity → GrowsInSteps 4 lower needed v w
+grows_once : {T A : Type 0} (lower : ℕ → ℕ) (needed c : ℕ) (v w : Vector T A) → v.capacity ≡ c → v.growth ≡ Doubling → c < needed → ((n : ℕ) → min (lower (n - 1) + 1) (2 ^ 64 - 1) ≡ 6) → needed ≤ w.capacity → GrowsInSteps 4 lower needed v w
     → let to = amortized Doubling c (c + 6) 4 in (mid : Vector T A) × (mid.capacity ≡ to) × (mid.growth ≡ Doubling) × (mid.grown ≡ with_growth v.grown c c to) × GrowsInSteps 4 lower needed mid w
 grows_once lower needed c v w is doubles short six enough (no_more b) = absurd (omega (arith, ap (λ u. u.capacity) b, is, short, enough))
 grows_once lower needed c v w is doubles short six enough (once_more h r) =

@@ -1,10 +1,11 @@
 //! Callers whose contracts say what a worked example counts, what an insert writes at the end, and
 //! what edits leave of a new text; and the numbers of a few scripts.
-ghost use Rattle.std.specs.Prelude.{◌≡◌, ℕ, ◌+◌, ◌*◌, ◌<◌, ◌≤◌, List, None, [], ◌∷◌, replicate, reverse, fold, IfOk, IsTrue, OnErr, OnOk};
+ghost use Rattle.std.specs.Prelude.{◌≡◌, ℕ, ◌+◌, ◌-◌, ◌*◌, ◌<◌, ◌≤◌, List, None, [], ◌∷◌, replicate, reverse, fold, IfOk, IsTrue, OnErr, OnOk};
 ghost use Rattle.std.specs.Mem.{type_size};
 ghost use Rattle.std.specs.Iterator.{IsFinite, YieldsThen};
 ghost use Rattle.aa_raw.specs.declared.raw_vec.Growth.TheVariants.{Doubling, Sparing};
-ghost use Rattle.aa_raw.specs.Growths.{FewBlocks, most_held};
+ghost use Rattle.aa_raw.specs.Growth.{amortized};
+ghost use Rattle.aa_raw.specs.Growths.{FewBlocks};
 ghost use Rattle.std.specs.List.{Contains};
 ghost use Rattle.aa_gap.specs.Buffer.{empty, len, gap, text as whole};
 ghost use Rattle.aa_gap.specs.Editing.{with_edit};
@@ -60,7 +61,8 @@ fn made_by<T: Drop, A: Allocator, I: Iterator<Item = Edit<T>>>(
         (λ text. (done : List (Edit T)) × YieldsThen I.next_gives edits.old done None edits.new
         × (text ≡ fold (with_edit size) (empty size 0 Doubling alloc) done)
         × (text.grown.moved ≤ 2 * inserts done) × FewBlocks Doubling text.grown.blocks (inserts done)
-        × (text.grown.held ≤ most_held Doubling (inserts done))) }
+        × let n = inserts done in
+        text.grown.held ≤ n - 1 + amortized Doubling (n - 1) n 8) }
 {
     let mut text = GapBuffer::new_in(alloc);
     text.edit_all(edits)?;
@@ -140,7 +142,7 @@ fn seventeen_inserts()
           alloc = 0;
         } }
     ensures few { FewBlocks Doubling 4 17 }
-    ensures held { 48 ≤ most_held Doubling 17 }
+    ensures held { 17 - 1 + amortized Doubling (17 - 1) 17 8 ≡ 48 }
 {}
 
 // 1, 2 and 3, a move back to after the first, then 9 and 8. Then the elements on either side of the
