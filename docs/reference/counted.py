@@ -222,7 +222,7 @@ def unnamed_scripts():
     if not (TOP / "CONTRIBUTING.md").exists():
         return
     page = text_of(TOP / "CONTRIBUTING.md")
-    for script in dict.fromkeys(re.findall(r"^((?:docs|tests|bench)/\w+)", text_of(TOP / ".ci" / "run"), re.M)):
+    for script in dict.fromkeys(re.findall(r"^ *((?:docs|tests|bench)/\w+)", text_of(TOP / ".ci" / "run"), re.M)):
         if f"`{script}" not in page:
             yield f"CONTRIBUTING.md: does not name {script}, which .ci/run runs"
 
