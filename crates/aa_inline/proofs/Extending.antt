@@ -53,7 +53,7 @@ module _ {T A : Type 0} (size N : ℕ) where
       let same : mid ≡ old = made ∙ ap (λ b. if b then old else in_block size (length old.items + k) old) fits in
       subst (λ s. HasRoom N s n) (sym same) room
 
--- what was moved, if the items are in a block
+-- what was written, if the items are in a block
 twice : (b : Bool) (k m n : ℕ) → k + (if b then m else 0) + (if b then n else 0) ≡ k + (if b then m + n else 0)
 twice true k m n = omega arith
 twice false k m n = omega arith
@@ -65,10 +65,10 @@ unmoved false k = omega arith
 module _ {T A : Type 0} where
   -- two writes in turn are one
   pub with_written-with_written : (s : Inlined T A) (xs ys : List T) (m n : ℕ) → with_written (with_written s xs m) ys n ≡ with_written s ys (m + n)
-  with_written-with_written s xs ys m n = λ t. record { items = ys; spilled = s.spilled; block = s.block; moved = twice s.spilled s.moved m n t; alloc = s.alloc }
+  with_written-with_written s xs ys m n = λ t. record s { items = ys; written = twice s.spilled s.written m n t }
 
   pub with_written-none : (s : Inlined T A) → with_written s s.items 0 ≡ s
-  with_written-none s = λ t. record { items = s.items; spilled = s.spilled; block = s.block; moved = unmoved s.spilled s.moved t; alloc = s.alloc }
+  with_written-none s = λ t. record s { written = unmoved s.spilled s.written t }
 
   -- one of n items that fit, and then the others
   pub room-with_written : (N : ℕ) (s : Inlined T A) (x : T) (n i : ℕ) → i < n → HasRoom N s (n - i) → HasRoom N (with_written s (s.items ++ x ∷ []) 1) (n - (i + 1))

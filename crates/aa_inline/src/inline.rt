@@ -197,6 +197,7 @@ impl<T: MadeWith<A> + Drop, A: Allocator + Copy, const N: usize> InlineVec<T, A,
     /// `CapacityOverflow` if the new length would exceed `usize::MAX` or the block would be too
     /// large. `AllocError` with the requested capacity if the allocation fails. The vector is
     /// unchanged and `item` is returned in the error.
+    #[inline]
     pub fn push(&mut self, item: T) -> Result<(), Refused<T>>
         ensures fits { HasRoom N self.old 1 → IsOk result }
         ensures pushed { let roomy = with_room (type_size T.row) N self.old 1 in
@@ -218,6 +219,7 @@ impl<T: MadeWith<A> + Drop, A: Allocator + Copy, const N: usize> InlineVec<T, A,
     /// Removes the last item and returns it, or returns `None` if the vector is empty.
     ///
     /// Does not allocate, and does not move the other items.
+    #[inline]
     pub fn pop(&mut self) -> Option<T>
         ensures taken { MatchOption result ((self.old.items ≡ []) × (self.new.items ≡ []))
             (λ x. self.old.items ≡ self.new.items ++ x ∷ []) }

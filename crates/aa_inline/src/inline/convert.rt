@@ -2,9 +2,8 @@
 ghost use Rattle.std.specs.Prelude.{◌≡◌, length, false, true, IfErr, IfOk, IsOk, OnErr, OnOk};
 ghost use Rattle.std.specs.Mem.{type_size};
 ghost use Rattle.allocator_api2.specs.Errors.{IsErrorFor};
-ghost use Rattle.allocator_api2.specs.Growths.{of_new};
 ghost use Rattle.allocator_api2.specs.Slice.{new_slice};
-ghost use Rattle.allocator_api2.specs.declared.raw_vec.Growth.TheVariants.{Doubling};
+ghost use Rattle.aa_inline.specs.Inlined.{boxed};
 
 use crate::few::Few;
 use crate::inline::places::move_to_exact_block;
@@ -24,10 +23,7 @@ impl<T: MadeWith<A> + Drop, A: Allocator + Copy, const N: usize> InlineVec<T, A,
     /// vector is returned in the error, as it was.
     pub fn into_boxed_slice(self) -> Result<BoxedSlice<T, A>, Refused<Self>>
         ensures fits { self.spilled ≡ true → length self.items ≡ self.block → IsOk result }
-        ensures made { IfOk result (λ b. b ≡
-            record { items = self.items; growth = Doubling; grown = b.grown; alloc = self.alloc }) }
-        ensures grown { self.spilled ≡ false → IfOk result
-            (λ b. b.grown ≡ of_new (type_size T.row) (length self.items)) }
+        ensures made { IfOk result (λ b. b ≡ boxed (type_size T.row) self) }
         ensures returned { IfErr result (λ r. r.source ≡ self) }
         ensures error { IfErr result (λ r. IsErrorFor r.error (length self.items)) }
     {
