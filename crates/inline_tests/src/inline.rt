@@ -1,8 +1,10 @@
 //! The small vector.
+ghost use Rattle.std.specs.Prelude.{◌≡◌, ◌+◌, ◌<◌, false, length, OnOk};
+
 use aa_inline::inline::InlineVec;
-use allocator_api2::collections::TryReserveError;
+use allocator_api2::collections::{Refused, TryReserveError};
 use allocator_api2::vec::Vec;
-use std::alloc::{AllocError, Global};
+use std::alloc::{AllocError, Allocator, Global};
 use std::cell::Cell;
 use std::cmp::Ordering;
 use std::io::Write;
@@ -33,9 +35,23 @@ fn has(v: &Small<'_>, items: &[u64]) -> bool {
     v.as_slice() == items
 }
 
+// Pushes an item. If the vector is full inline, that allocates one block, and each item is written
+// to it once.
+#[tactic(auto, unfolding(aa_inline::specs::Inlined::with_room, aa_inline::specs::Inlined::in_block))]
+fn spill<A: Allocator + Copy>(v: &mut InlineVec<u64, A, 3>, item: u64) -> Result<(), Refused<u64>>
+    ensures inline { v.old.spilled ≡ false → length v.old.items < 3
+        → v.new.grown.blocks ≡ v.old.grown.blocks }
+    ensures blocks { v.old.spilled ≡ false → length v.old.items ≡ 3
+        → OnOk result (v.new.grown.blocks ≡ v.old.grown.blocks + 1) }
+    ensures written { v.old.spilled ≡ false → length v.old.items ≡ 3
+        → OnOk result (v.new.written ≡ v.old.written + 4) }
+{
+    v.push(item)
+}
+
 // Puts an item at the end.
 fn push(v: &mut Small<'_>, item: u64) -> End {
-    match v.push(item) {
+    match spill(v, item) {
         Ok(()) => End::Done,
         Err(refused) => end_by(refused.error),
     }
