@@ -93,10 +93,8 @@ impl Held {
     // Fills the table, and removes nine of each ten keys in a row.
     fn fill_sparse(&mut self, count: u32) {
         self.fill_table(count);
-        for (at, key) in self.keys.iter().enumerate() {
-            if at % 10 != 0 {
-                self.table.remove(key);
-            }
+        for ten in self.keys.chunks(10) {
+            table_remove(&mut self.table, &ten[1..]);
         }
     }
 
@@ -194,9 +192,7 @@ fn table_remove(table: &mut Numbers, keys: &[u64]) -> u64 {
 #[inline(never)]
 fn table_reserved(table: &mut Numbers, keys: &[u64]) {
     table.reserve(keys.len());
-    for key in keys {
-        table.insert(*key, *key >> 1);
-    }
+    table_insert(table, keys);
 }
 
 #[inline(never)]

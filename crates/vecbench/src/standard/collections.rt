@@ -105,9 +105,9 @@ impl Held {
     // Fills the table, and removes nine of each ten keys in a row.
     fn fill_sparse(&mut self, count: u32) -> bool {
         let filled = self.fill_table(count);
-        for (at, key) in self.keys.as_slice().iter().enumerate() {
-            if at % 10 != 0 {
-                self.table.remove(key);
+        for ten in self.keys.as_slice().chunks(10) {
+            if let Some((_, others)) = ten.split_first() {
+                table_remove(&mut self.table, others);
             }
         }
         filled
@@ -223,8 +223,7 @@ fn table_remove(table: &mut Numbers, keys: &[u64]) -> u64 {
 
 #[inline(never)]
 fn table_reserved(table: &mut Numbers, keys: &[u64]) -> bool {
-    table.reserve(keys.len()).is_ok()
-        && each_is_granted!(key in keys, table.insert(*key, *key >> 1))
+    table.reserve(keys.len()).is_ok() && table_insert(table, keys)
 }
 
 #[inline(never)]
