@@ -1,6 +1,6 @@
 -- A slice for whose elements a closure was called in order, up to one place.
 use mathlib.Core.Bool.{beq}
-use Rattle.aa_vec.proofs.Common.{◌≡◌, not, ℕ, suc, ◌+◌, ◌<◌, ◌≤◌, Bool, true, false, List, [], ◌∷◌, ◌++◌, length, take, drop, get_or, sym, ap, ◌∙◌, subst, refl, arith, append_assoc, length-append, length-drop, slice_set, if◌then◌else◌, drop_all, take-append-drop, drop-set, drop-append-le, take_at, drop_at, length-take-le, nat_tests, rules, MayCallInOrder, MayChainFrom, MayDeduplicate, KeepsWhen, CallsUntil, ChainsAlong, CallsOnNeighbours, zero-add, drop-cons, take-set, take-append-le}
+use Rattle.aa_vec.proofs.Common.{◌≡◌, not, ℕ, suc, ◌+◌, ◌<◌, ◌≤◌, Bool, true, false, List, [], ◌∷◌, ◌++◌, length, take, drop, get_or, sym, ap, ◌∙◌, subst, refl, arith, append_assoc, length-append, length-drop, slice_set, if◌then◌else◌, drop_all, take-append-drop, drop-set, drop-append-le, take_at, drop_at, length-take-le, nat_tests, rules, MayCallInOrder, MayChainFrom, MayDeduplicate, CallsUntil, ChainsAlong, CallsOnNeighbours, zero-add, drop-cons, take-set, take-append-le}
 
 module _ {T : Type 0} (ys : List T) (i : ℕ) (d : T) (h : i < length ys) where
   -- the elements from the index on
@@ -47,10 +47,7 @@ module _ {F T : Type 0} (low : ℕ) (Until : F → List T → ℕ → F → List
     pub Reached-here : {n : ℕ} (zs : List T) → i ≡ n → Until h (drop i ys) 0 g zs → ws ≡ take i ys ++ zs → Until f xs n g ws
     Reached-here {n} zs e u left = subst (λ n. Until f xs n g ws) {x = i + 0} {y = n} (omega (arith, e)) (subst (Until f xs (i + 0) g) (sym left) (gone.comes 0 g zs u))
 
-module _ {F T : Type 0} (Each : F → T → Bool → F → T → Type 0) (Takes : F → T → Type 0) (stays : Bool) where
-  abbrev Calls : F → T → Bool → F → T → Type 0
-  Calls = KeepsWhen stays Each
-
+module _ {F T : Type 0} (Calls : F → T → Bool → F → T → Type 0) (Takes : F → T → Type 0) where
   abbrev pub HasCalled : F → List T → ℕ → F → List T → Type 0
   HasCalled = Reached 0 (CallsUntil Calls) (MayCallInOrder Calls Takes)
 
@@ -59,22 +56,22 @@ module _ {F T : Type 0} (Each : F → T → Bool → F → T → Type 0) (Takes 
     pub next_takes : Takes h (get_or ys i d)
     next_takes = (rw (from_here ys i d within) at asked.may).0
 
-    module _ {answer : Bool} {g : F} {y : T} (a : Each h (get_or ys i d) answer g y) where
-      called : (goes : Bool) → not (beq answer stays) ≡ goes → Calls h (get_or ys i d) (not goes) g y
-      called goes e = grind (arith, nat_tests, nat_tests)
+    module _ {kept : Bool} {g : F} {y : T} (a : Calls h (get_or ys i d) kept g y) where
+      called : (b : Bool) → kept ≡ b → Calls h (get_or ys i d) b g y
+      called b e = subst (λ b. Calls h (get_or ys i d) b g y) e a
 
       until : (k : ℕ) (t : F) (zs : List T) → CallsUntil Calls h (get_or ys i d ∷ drop (i + 1) ys) k t zs → CallsUntil Calls h (drop i ys) k t zs
       until k t zs = subst (λ l. CallsUntil Calls h l k t zs) (sym (from_here ys i d within))
 
       -- it is kept
-      pub HasCalled-more : not (beq answer stays) ≡ false → HasCalled f xs (i + 1) g (slice_set ys i y)
+      pub HasCalled-more : kept ≡ true → HasCalled f xs (i + 1) g (slice_set ys i y)
       HasCalled-more e =
-          let s = called false e in
+          let s = called true e in
           Reached-more 0 (CallsUntil Calls) (MayCallInOrder Calls Takes) asked g _ y (drop (i + 1) ys) (whole_set ys i d within y) (omega arith) ((rw (from_here ys i d within) at asked.may).1 true g y s) (λ k t zs u. until (suc k) t (y ∷ zs) (g, y, zs, s, u, refl))
 
       -- it is removed
-      pub CallsUntil-here : not (beq answer stays) ≡ true → CallsUntil Calls f xs i g (slice_set ys i y)
-      CallsUntil-here e = Reached-here 0 (CallsUntil Calls) (MayCallInOrder Calls Takes) asked g _ (y ∷ drop (i + 1) ys) refl (until 0 g _ (y, called true e, refl)) (whole_set ys i d within y)
+      pub CallsUntil-here : kept ≡ false → CallsUntil Calls f xs i g (slice_set ys i y)
+      CallsUntil-here e = Reached-here 0 (CallsUntil Calls) (MayCallInOrder Calls Takes) asked g _ (y ∷ drop (i + 1) ys) refl (until 0 g _ (y, called false e, refl)) (whole_set ys i d within y)
 
   -- all are kept
   pub CallsUntil-end : {f : F} {xs : List T} {i n : ℕ} {h : F} {ys : List T} → HasCalled f xs i h ys → n ≤ i → length ys ≡ n → CallsUntil Calls f xs n h ys

@@ -1,5 +1,5 @@
 -- Elements for which a closure is called with the last one kept, and of which the kept ones were moved down.
-use Rattle.aa_vec.proofs.Common.{IsCallableAlong, ◌≡◌, ℕ, zero, suc, ◌+◌, ◌-◌, ◌≤◌, ◌<◌, Bool, true, false, not, List, [], ◌∷◌, ◌++◌, length, map, take, drop, refl, sym, ap, ◌∙◌, subst, arith, append_assoc, length-append, HasTail, SetsTail, tail_items, ChainsFrom, Deduplicated, MayChainFrom, MayDeduplicate, Deduplicates, ChainsUntil, ChainsOnTail, Vector, len, Becomes, same_from_push}
+use Rattle.aa_vec.proofs.Common.{IsCallableAlong, ◌≡◌, ℕ, zero, suc, ◌+◌, ◌-◌, ◌≤◌, ◌<◌, Bool, true, false, not, List, [], ◌∷◌, ◌++◌, length, map, take, drop, refl, sym, ap, ◌∙◌, subst, arith, append_assoc, length-append, HasTail, SetsTail, tail_items, ChainsFrom, Deduplicated, MayChainFrom, MayDeduplicate, Deduplicates, ChainsUntil, ChainsOnTail, Vector, len, same_from_push}
 use Rattle.aa_vec.proofs.Becoming.{Becomes-refl}
 use Rattle.aa_vec.proofs.Chains.{split_last}
 use Rattle.aa_vec.proofs.Closed.{marks, removed-not}
@@ -93,13 +93,18 @@ module _ {F T : Type 0} (Calls : F → T → T → Bool → F → T → T → Ty
                 grind (arith, append_assoc, s, q, e, asked.front, asked.last, q.0, r.before ++ e.left);
           }
 
--- there is none
-pub Deduplicates-none : {F T A : Type 0} {Calls : F → T → T → Bool → F → T → T → Type 0} (f : F) (old : Vector T A) → old.items ≡ [] → Deduplicates Calls f old f old
-Deduplicates-none {Calls = Calls} f old none = record { results = []; left = []; called = subst (λ xs. Deduplicated Calls f xs [] f []) (sym none) (refl, refl, refl); runs = 0; few = omega arith; fewer = omega arith; becomes = subst (λ l. Becomes old l 0 0 old) none (Becomes-refl old) }
+-- there are none, or one
+Deduplicated-few : {F T : Type 0} (Calls : F → T → T → Bool → F → T → T → Type 0) (f : F) (xs : List T) → length xs < 2 → Deduplicated Calls f xs [] f xs
+Deduplicated-few Calls f [] few = (refl, refl, refl)
+Deduplicated-few Calls f (x ∷ []) few = (refl, refl)
+Deduplicated-few Calls f (x ∷ y ∷ xs) few = absurd (omega (arith, few))
+
+pub Deduplicates-few : {F T A : Type 0} {Calls : F → T → T → Bool → F → T → T → Type 0} (f : F) (old : Vector T A) → len old < 2 → Deduplicates Calls f old f old
+Deduplicates-few {Calls = Calls} f old few = record { results = []; left = old.items; called = Deduplicated-few Calls f old.items few; runs = 0; few = omega arith; fewer = omega arith; becomes = Becomes-refl old }
 
 module _ {F T A : Type 0} {Calls : F → T → T → Bool → F → T → T → Type 0} {Takes : F → T → T → Type 0} where
   pub chained-turn : {f h g : F} {old v w : Vector T A} {at end k n : ℕ} → Stage (Told Calls) (May Calls Takes) f (take 1 old.items) (drop 1 old.items) old h v at end → n ≡ len v → ChainsOnTail Calls h v (at - n) (end - at) k g w
-      → Turned (Told Calls) (May Calls Takes) f (take 1 old.items) (drop 1 old.items) old at end (at - n) k g w
+      → Turned (Told Calls) (May Calls Takes) f (take 1 old.items) (drop 1 old.items) old at end n k g w
   chained-turn {f = f} {h = h} {g = g} {old = old} {v = v} {w = w} s many asked = turned (Told Calls) (May Calls Takes) f (take 1 old.items) (drop 1 old.items) old s many (λ has_tail. turn-chained Calls Takes h v _ _ has_tail _ g w asked)
 
   pub chained-start : {f : F} {old v : Vector T A} {end : ℕ} (rest : ℕ) → SetsTail old 1 v → 1 + rest ≡ len old → end ≡ len old → IsCallableAlong Calls Takes f old.items → Stage (Told Calls) (May Calls Takes) f (take 1 old.items) (drop 1 old.items) old f v 1 end × (1 ≡ len v)
@@ -111,4 +116,4 @@ module _ {F T A : Type 0} {Calls : F → T → T → Bool → F → T → T → 
       let q = stage-ended (Told Calls) (May Calls Takes) f (take 1 old.items) (drop 1 old.items) old g w at end s e (λ yet none m. let p = split_last w.items m.some in rw none (record { front = p.0; last = p.1; results = []; left = p.1 ∷ []; had = p.2; called = (refl, refl); stay = refl; all = p.2 })) in let r = q.1 in
       grind (arith, removed-not, whole Calls Takes f old.items q.0 g w.items r, w.items, r.results, q.2)
 
-pub ruleset ended = (Deduplicates-ended, Deduplicates-none, chained-start)
+pub ruleset ended = (Deduplicates-ended, Deduplicates-few, chained-start)

@@ -1,5 +1,7 @@
 -- The tail of a vector, and the gap before it, as the places of its block.
-use Rattle.aa_vec.proofs.Common.{◌≡◌, ℕ, ◌+◌, ◌-◌, ◌<◌, ◌≤◌, List, [], ◌∷◌, ◌++◌, length, map, take, drop, replicate, get_or, Option, Some, None, refl, sym, ap, ◌∙◌, subst, arith, length-append, length-drop, length-set, length-take, slice_set, if◌then◌else◌, ◌==◌, drop-append-le, drop-drop, drop-map, drop-take, drop-set, drop-set-add, drop-set-lt, length-map, length-replicate, length-take-le, take-append-drop, take_at, drop_at, IsRun, length-moved, length-run, IsRun-long, IsRun-part, drop-with, run-drop, run-filled, run-moved, run-moved-below, run-split, run-take, run-is, run-set-above, IsRun-set-above, HasTail, LeavesInTail, tail_items, Vector, len, view_of, IsFront, Inside, refill, length_refill, with_places, IsRun-with-below, length-with_run, first-filled, run-one, run-push, run-with-below, cut-long, IsFilled, run, moved, with_run, vector_in}
+use Rattle.aa_vec.proofs.Common.{◌≡◌, ℕ, ◌+◌, ◌-◌, ◌<◌, ◌≤◌, List, [], ◌∷◌, ◌++◌, length, map, take, drop, replicate, get_or, Option, Some, None, refl, sym, ap, ◌∙◌, subst, arith, nat_tests, length-append, length-drop, length-set, length-take, slice_set, if◌then◌else◌, ◌==◌, drop-append-le, drop-drop, drop-map, drop-take, drop-set, drop-set-add, drop-set-lt, length-map, length-replicate, length-take-le, take-append-drop, take_at, drop_at, IsRun, length-moved, length-run, IsRun-long, IsRun-part, drop-with, run-drop, run-filled, run-moved, run-moved-below, run-split, run-take, run-is, run-set-above, IsRun-set-above, HasTail, LeavesInTail, tail_items, Vector, len, view_of, IsFront, Inside, refill, length_refill, with_places, IsRun-with-below, length-with_run, first-filled, run-one, run-push, run-with-below, cut-long, IsFilled, run, moved, with_run, vector_in}
+use Rattle.aa_raw.specs.Block.{Block, with_moved, with_written}
+use Rattle.aa_raw.proofs.Places.{moved_one}
 
 -- if the places above two places are the same, so are the places as far above them
 pub further : {Y : Type 0} (ds es : List Y) (a b c d : ℕ) → a ≤ c → c + b ≡ d + a → drop a ds ≡ drop b es → drop c ds ≡ drop d es
@@ -43,6 +45,10 @@ module _ {X : Type 0} where
 -- a move over a gap writes nothing where there is no gap
 pub over_gap : (l gap n : ℕ) → (if l + gap == l then 0 else n) ≡ (if gap == 0 then 0 else n)
 over_gap l gap n = grind arith
+
+-- a value that was taken and put was moved
+pub moved-by_one : {X A : Type 0} (b : Block X A) (l gap : ℕ) {mid new : Block X A} {x : X} → 0 < gap → l + gap < length b.places → get_or b.places (l + gap) None ≡ Some x → mid ≡ with_places b (slice_set b.places (l + gap) None) → new ≡ with_written mid (slice_set mid.places l (Some x)) 1 → new ≡ with_moved b (l + gap) l 1
+moved-by_one b l gap some within is taken put = grind (arith, nat_tests, moved_one, taken, put, is)
 
 -- places after a run was moved down over a gap to the l before it
 module _ {X : Type 0} (cs : List (Option X)) (l gap n : ℕ) (has_tail : IsRun (drop gap (drop l cs)) 0 n) (fits : l + gap + n ≤ length cs) where

@@ -1,5 +1,5 @@
 -- Elements tested in order, of which the kept ones were moved down.
-use Rattle.aa_vec.proofs.Common.{SetsTail, IsCallableInOrder, ◌≡◌, ℕ, zero, suc, ◌+◌, ◌-◌, ◌≤◌, Bool, true, false, List, [], ◌∷◌, ◌++◌, length, take, drop, refl, sym, ap, ◌∙◌, arith, append_assoc, append-nil, HasTail, tail_items, Call, results_of, kept, CalledInOrder, MayCallInOrder, Retains, CallsUntil, CallsOnTail, Vector, len}
+use Rattle.aa_vec.proofs.Common.{SetsTail, IsCallableInOrder, ◌≡◌, ℕ, zero, suc, ◌+◌, ◌-◌, ◌≤◌, Bool, true, false, List, [], ◌∷◌, ◌++◌, length, take, drop, refl, sym, ap, ◌∙◌, subst, arith, append_assoc, append-nil, HasTail, tail_items, Call, results_of, kept, CalledInOrder, MayCallInOrder, Retains, CallsUntil, CallsOnTail, Vector, len}
 use Rattle.aa_vec.proofs.Becoming.{Becomes-spare}
 use Rattle.aa_vec.proofs.Closed.{marks, removed-calls}
 use Rattle.aa_vec.proofs.Stages.{Turn, Stage, Turned, turned, stage-start, start-len, stage-ended}
@@ -63,11 +63,15 @@ module _ {F T : Type 0} (Calls : F → T → Bool → F → T → Type 0) where
           }
 
 module _ {F T A : Type 0} {Calls : F → T → Bool → F → T → Type 0} {Takes : F → T → Type 0} where
-  pub asked-turn : {f h g : F} {old v w : Vector T A} {at end k n : ℕ} → Stage (Told Calls) (May Calls Takes) f [] old.items old h v at end → n ≡ len v → CallsOnTail Calls h v (at - n) (end - at) k g w → Turned (Told Calls) (May Calls Takes) f [] old.items old at end (at - n) k g w
+  pub asked-turn : {f h g : F} {old v w : Vector T A} {at end k n : ℕ} → Stage (Told Calls) (May Calls Takes) f [] old.items old h v at end → n ≡ len v → CallsOnTail Calls h v (at - n) (end - at) k g w → Turned (Told Calls) (May Calls Takes) f [] old.items old at end n k g w
   asked-turn {f = f} {h = h} {g = g} {old = old} {v = v} {w = w} s many asked = turned (Told Calls) (May Calls Takes) f [] old.items old s many (λ has_tail. turn-asked Calls Takes h v _ _ has_tail _ g w asked)
 
-  pub retained-start : {f : F} {old v : Vector T A} {end : ℕ} → SetsTail old 0 v → 0 + end ≡ len old → IsCallableInOrder Calls Takes f old.items → Stage (Told Calls) (May Calls Takes) f [] old.items old f v 0 end × (0 ≡ len v)
-  retained-start {f = f} {old = old} {end = end} set all may = grind (arith, stage-start, start-len)
+  -- the turn before the first removed element
+  pub first-turn : {f g : F} {old v w : Vector T A} {end k : ℕ} → SetsTail old 0 v → 0 + end ≡ len old → IsCallableInOrder Calls Takes f old.items → CallsOnTail Calls f v 0 end k g w
+      → Turned (Told Calls) (May Calls Takes) f [] old.items old 0 end 0 k g w
+  first-turn {f = f} {g = g} {old = old} {v = v} {w = w} {end = end} {k = k} set all may asked =
+      let start : Stage (Told Calls) (May Calls Takes) f [] old.items old f v 0 end × (0 ≡ len v) = grind (arith, stage-start, start-len) in
+      asked-turn start.0 start.1 (subst (λ n. CallsOnTail Calls f v 0 n k g w) {x = end} {y = end - 0} (omega arith) asked)
 
   -- the closure was called for all
   pub Retains-ended : {f g : F} {old w : Vector T A} {at end : ℕ} → Stage (Told Calls) (May Calls Takes) f [] old.items old g w at end → at ≡ end → Retains Calls f old g w

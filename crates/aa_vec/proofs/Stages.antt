@@ -42,10 +42,10 @@ module _ {F T A : Type 0} (Ends : F → (items yet : List T) → List Bool → F
 
     -- k more are kept of the elements in the places from `at` up to `end`, which are after the gap in w: what may come next, and what has
     -- then come
-    abbrev pub Turned : (at end gap k : ℕ) → F → (w : Vector T A) → Type 0
-    Turned at end gap k g w =
-        (at + k ≤ end) × HasTail w gap (end - at)
-        × ((z : Vector T A) (next : ℕ) → TakesNext w gap at end k z next → Stage g z next end × (at < end → at < next) × (next < end → len z < next))
+    abbrev pub Turned : (at end n k : ℕ) → F → (w : Vector T A) → Type 0
+    Turned at end n k g w =
+        (at + k ≤ end) × (n ≡ len w) × HasTail w (at - len w) (end - at)
+        × ((z : Vector T A) (next : ℕ) → TakesNext w (at - len w) at end k z next → Stage g z next end × (at < end → at < next) × (next < end → len z < next))
 
     module _ (h : F) (v : Vector T A) (gap n : ℕ) (now : On h v gap n) (k : ℕ) (g : F) (w : Vector T A) (left : List T) (t : Turn h v gap n k g w left) where
       more : (u z : Vector T A) (i m : ℕ) → ClosesGap w gap k u → z ≡ with_spare u z.spare → HasTail z i m → tail_items z i m ≡ drop 1 (drop k left) → i ≡ gap + min (n - k) 1 → m ≡ n - (k + 1) → On g z i m
@@ -85,11 +85,12 @@ module _ {F T A : Type 0} (Ends : F → (items yet : List T) → List Bool → F
               }
 
         -- the next place is after it, and where some remain, one was removed
-        pub turned : Turned at end (at - n) k g w
-        turned = (
+        pub turned : Turned at end n k g w
+        turned = let e : n ≡ len w = many ∙ sym t.long in (
           turn-within,
-          t.has_tail,
-          λ z next p. elim (below_or_not (at + k) end) [
+          e,
+          subst (λ i. HasTail w (at - i) (end - at)) e t.has_tail,
+          λ z next q. let p = subst (λ i. TakesNext w (at - i) at end k z next) (sym e) q in elim (below_or_not (at + k) end) [
             | inl less ↦ let q = p.removed less in (spare z next p 1 (omega (arith, less)) q.1 (q.0 ∙ ap (with_spare p.closed) (sym (ap (λ s. s.spare) q.0))) (ap (λ u. drop (at - n + 1) u.spare) q.0 ∙ drop-set-lt (at - n + 1) p.closed.spare (at - n) None (omega arith)), λ some. omega (arith, q.1), λ more. omega (arith, q.1, ap len q.0, long z next p, many, s.here))
             | inr all ↦ let e : at + k ≡ end = omega (arith, all, turn-within) in let q = p.none e in (spare z next p 0 (omega (arith, e)) (omega (arith, q.1, e)) (q.0 ∙ ap (with_spare p.closed) (sym (ap (λ s. s.spare) q.0))) (ap (λ u. drop (at - n + 0) u.spare) q.0), λ some. omega (arith, q.1, some), λ more. omega (arith, q.1, more))
           ],

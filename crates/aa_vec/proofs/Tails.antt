@@ -1,9 +1,7 @@
 -- The tail of a vector, after each of the calls that work on it.
-use Rattle.aa_vec.proofs.Common.{◌≡◌, ℕ, ◌+◌, ◌-◌, ◌<◌, ◌≤◌, List, [], ◌∷◌, ◌++◌, length, map, take, drop, Option, Some, None, refl, subst, sym, ap, ◌∙◌, arith, length-append, slice_set, append-nil, drop-drop, drop-set-lt, length-map, take_at, take-append-drop, length-run, run-is, run-take, run-filled, run-zero, IsRun-long, HasTail, ClosesGap, tail_items, with_spare, Vector, len, Becomes, moved_over, TakesNext}
+use Rattle.aa_vec.proofs.Common.{◌≡◌, ℕ, ◌+◌, ◌-◌, ◌<◌, ◌≤◌, List, ◌++◌, length, map, take, drop, Option, Some, None, refl, subst, sym, ap, ◌∙◌, arith, length-append, slice_set, append-nil, drop-drop, length-map, take_at, take-append-drop, length-run, run-is, run-take, run-filled, run-zero, IsRun-long, HasTail, ClosesGap, tail_items, with_spare, Vector, len, moved_over, TakesNext}
 use Rattle.aa_vec.proofs.Becoming.{Becomes-refl}
-use Rattle.aa_vec.proofs.Closed.{moved_some}
 use Rattle.aa_vec.proofs.TailLemmas.{still_tail, still_are, part_tail, later_part}
-use Rattle.aa_vec.proofs.Tidy.{count-by_one}
 
 module _ {T A : Type 0} (v : Vector T A) (gap n : ℕ) (has_tail : HasTail v gap n) where
   abbrev pub elements : List T
@@ -51,22 +49,12 @@ module _ {T A : Type 0} (v : Vector T A) (gap n : ℕ) (has_tail : HasTail v gap
     pub others_tail : HasTail w gap (n - k)
     others_tail = still_tail v w (gap + k) gap (n - k) (part_tail v gap n has_tail (gap + k) (n - k) (omega arith) (omega (arith, h))) (omega (arith, has_tail.0, h, moved_len, ap (λ u. u.capacity) closes.becomes)) others
 
--- a gap is closed by none, and by one that was taken and written
+-- a gap is closed by none
 module _ {T A : Type 0} where
   pub closes_none : (v : Vector T A) (gap : ℕ) → ClosesGap v gap 0 v
   closes_none v gap =
       let none : moved_over gap 0 ≡ 0 = grind arith in
       record { becomes = rw (none, run-zero (drop gap v.spare) 0, append-nil v.items) (Becomes-refl v); spare = refl; few = omega arith }
-
-  pub closes_by_one : (old mid new : Vector T A) (gap : ℕ) (x : T) → 0 < gap → HasTail old gap 1 → tail_items old gap 1 ≡ x ∷ [] → mid ≡ with_spare old (slice_set old.spare gap None) → Becomes mid (mid.items ++ x ∷ []) 1 1 new
-      → new.spare ≡ drop 1 mid.spare → ClosesGap old gap 1 new
-  closes_by_one old mid new gap x some has_tail e taken put spare = record {
-    few = count-by_one old.spare gap has_tail.1 mid.spare (ap (λ v. v.spare) taken) new.spare spare;
-    becomes = rw (moved_some gap 1 some, e) (rw taken at put);
-    spare = ap (drop gap) spare ∙ drop-drop gap 1 mid.spare ∙ ap (λ i. drop i mid.spare) (omega arith) ∙ ap (λ v. drop (gap + 1) v.spare) taken ∙ drop-set-lt (gap + 1) old.spare gap None (omega arith) ∙ sym (drop-drop 1 gap old.spare);
-  }
-
-pub ruleset closing = (closes_by_one)
 
 -- of the elements after a gap the first k were moved down
 module _ {T A : Type 0} {v closed : Vector T A} {gap k : ℕ} (closes : ClosesGap v gap k closed) where

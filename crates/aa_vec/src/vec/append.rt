@@ -38,25 +38,14 @@ impl<T, A: Allocator> Vec<T, A> {
         if let Err(error) = self.try_reserve(other.len()) {
             return Err(error);
         }
-        self.fill_from(other);
+        self.take_from(other, 0);
         Ok(())
-    }
-
-    // Appends all elements of `more`, which fit, and leaves it empty.
-    pub(crate) fn fill_from(&mut self, more: &mut Self)
-        requires { HasRoom self.old (len more.old) }
-        ensures filled { let moved = len more.old in
-            Becomes self.old (self.old.items ++ more.old.items) moved (run_count moved) self.new }
-        ensures spare { self.new.spare ≡ drop (len more.old) self.old.spare }
-        ensures emptied { Becomes more.old [] 0 0 more.new }
-    {
-        self.take_from(more, 0);
     }
 
     // Moves the elements of `other` from the index `at` on to the end of this vector. They fit.
     #[inline]
     #[tactic(auto, using(aa_raw::proofs::Calls::in_runs, crate::proofs::Joining::transferred, crate::proofs::Becoming::becomes, crate::proofs::Tidy::few_at_end))]
-    fn take_from(&mut self, other: &mut Self, at: usize)
+    pub(crate) fn take_from(&mut self, other: &mut Self, at: usize)
         requires within { at ≤ len other.old }
         requires room { HasRoom self.old (len other.old - at) }
         ensures filled { let moved = len other.old - at in

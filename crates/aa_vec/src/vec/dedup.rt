@@ -1,16 +1,15 @@
 //! Removal of repeated elements.
-ghost use Rattle.std.specs.Prelude.{◌≡◌, Bool, ◌+◌, ◌-◌, ◌<◌, [], ◌∷◌, ◌++◌, List, drop, length};
+ghost use Rattle.std.specs.Prelude.{◌≡◌, Bool, ◌+◌, ◌-◌, ◌<◌, ◌≤◌, [], ◌∷◌, ◌++◌, List, drop, length};
 ghost use Rattle.std.specs.List.{dedup};
-ghost use Rattle.std.specs.Fn.{CalledAtPairMut, ComparesKeys};
+ghost use Rattle.std.specs.Fn.{CalledAtMut, CalledAtPairMut, ComparesKeys};
 ghost use Rattle.aa_raw.specs.Closures.{CallableAtPairMut};
 ghost use Rattle.aa_vec.specs.Tail.{HasTail, tail_items};
-ghost use Rattle.aa_vec.specs.Choosing.{CallableAtKeys, Equals, IsCallableAlong, MayChainFrom, MayDeduplicate, IsPureTest, Deduplicates};
+ghost use Rattle.aa_vec.specs.Choosing.{CallableAtKeys, CallableAtMut, Equals, IsCallableAlong, MayChainFrom, MayDeduplicate, IsPureTest, Deduplicates};
 ghost use Rattle.aa_vec.specs.Until.{CallsOnLast, ChainsInTail, ChainsOnTail, CallsOnNeighbours, ChainsAlong};
 ghost use Rattle.aa_vec.specs.Vector.{len};
 
 use crate::vec::Vec;
-use crate::vec::retain::call_on;
-use crate::vec::tail::steps::{step_over, step_over_many};
+use crate::vec::tail::steps::step_over;
 use core::mem::replace_with;
 use std::alloc::Allocator;
 
@@ -110,33 +109,32 @@ impl<T: PartialEq + Drop, A: Allocator> Vec<T, A> {
 }
 
 impl<T, A: Allocator> Vec<T, A> {
-    // Calls `same` for the elements after the gap, which are those in the places from `at` up to
-    // `end`. It is called in order, each time with the last element kept before, up to the first
-    // repeat. Returns how many are kept before it.
+    // Calls `same` for the `count` elements after the gap in order, each time with the last element
+    // kept before, up to the first repeat. Returns how many are kept before it. There are at
+    // least `LEAST`.
     #[inline(always)]
-    fn chain_on_tail<F: FnMut(&mut T, &mut T) -> bool>(
+    fn chain_on_tail<const LEAST: usize, F: FnMut(&mut T, &mut T) -> bool>(
         &mut self,
         gap: usize,
-        at: usize,
-        end: usize,
+        count: usize,
         same: &mut F,
     ) -> usize
         requires last { 0 < len self.old }
-        requires some { at < end }
-        requires has_tail { HasTail self.old gap (end - at) }
+        requires least { (0 < LEAST) × (LEAST ≤ count) }
+        requires has_tail { HasTail self.old gap count }
         requires callable { (front : List T) (last : T) → self.old.items ≡ front ++ last ∷ []
             → MayChainFrom (CalledAtPairMut F.FnMut) (CallableAtPairMut F.FnMut) same.old last
-            (tail_items self.old gap (end - at)) }
-        ensures { ChainsOnTail (CalledAtPairMut F.FnMut) same.old self.old gap (end - at)
+            (tail_items self.old gap count) }
+        ensures { ChainsOnTail (CalledAtPairMut F.FnMut) same.old self.old gap count
             result same.new self.new }
     {
         if self.call_on_last(gap, same) {
             return 0;
         }
-        if end - 1 <= at {
+        if LEAST < 2 && count < 2 {
             return 1;
         }
-        1 + self.chain_in_tail(gap, end - at, same)
+        1 + self.chain_in_tail(gap, count, same)
     }
 
     // Calls `same` for the `count` elements after the gap but the first, in order, each with the
@@ -191,28 +189,25 @@ fn dedup_owned<'a, T: Drop, A: Allocator, F: FnMut(&mut T, &mut T) -> bool>(
     ensures same_reference { result.1.ghost_name ≡ same.entry.ghost_name }
     ensures removed { Deduplicates (CalledAtPairMut F.FnMut) same.old list result.1.now result.0 }
 {
-    if list.is_empty() {
+    let end = list.len();
+    if end < 2 {
         return (list, same);
     }
-    let end = list.len();
     let mut at = 1;
     let _left = list.set_tail(at);
-    if end <= at {
-        return (list, same);
-    }
-    let first = list.chain_on_tail(0, at, end, same);
-    (list, at) = step_over_many(list, 0, at, end, first);
+    let first = list.chain_on_tail::<1, F>(0, end - at, same);
+    (list, at) = step_over::<0, T, A>(list, at, end, first);
     'runs: while at < end - 1 {
         let gap = at - list.len();
-        let kept = list.chain_on_tail(gap, at, end, same);
-        (list, at) = step_over(list, gap, at, end, kept);
+        let kept = list.chain_on_tail::<2, F>(gap, end - at, same);
+        (list, at) = step_over::<2, T, A>(list, at, end, kept);
     }
     if end <= at {
         return (list, same);
     }
     let gap = at - list.len();
-    let rest = list.chain_on_tail(gap, at, end, same);
-    (list, _) = step_over_many(list, gap, at, end, rest);
+    let rest = list.chain_on_tail::<1, F>(gap, end - at, same);
+    (list, _) = step_over::<0, T, A>(list, at, end, rest);
     (list, same)
 }
 
@@ -289,4 +284,13 @@ fn same_keys<T, K: PartialEq + Drop, F: FnMut(&mut T) -> K>(
     let first = call_on(key, element);
     let second = call_on(key, last);
     first == second
+}
+
+// Calls `f` once.
+#[inline(always)]
+fn call_on<T, R, F: FnMut(&mut T) -> R>(f: &mut F, element: &mut T) -> R
+    requires { CallableAtMut F.FnMut f.old element.old }
+    ensures { CalledAtMut F.FnMut f.old element.old result f.new element.new }
+{
+    f(element)
 }

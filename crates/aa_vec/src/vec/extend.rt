@@ -12,8 +12,10 @@ ghost use Rattle.aa_vec.specs.Extend.{LowerAtMost, LowerExactly};
 use crate::vec::Vec;
 use crate::vec::extend::items::Hinted;
 use crate::vec::extend::lower_bound::{ByHint, ByLower, LowerBound, Reading};
+use crate::vec::tail::gap::with_gap_filled;
 use aa_raw::collections::TryReserveError;
 use aa_raw::raw_vec::Growth;
+use core::mem::replace_with;
 use std::alloc::{Allocator, Global};
 use std::iter::IntoIterator;
 
@@ -22,14 +24,6 @@ pub mod items;
 pub(crate) mod lower_bound;
 
 impl<T, A: Allocator> Vec<T, A> {
-    // Returns the number of empty places.
-    #[inline(always)]
-    fn free(&self) -> usize
-        ensures { len self.now + result ≡ self.now.capacity }
-    {
-        self.capacity() - self.len()
-    }
-
     // Appends items of `iter` until no place is empty or the iterator ends. Returns how many places
     // are empty then.
     #[inline(always)]
@@ -42,7 +36,9 @@ impl<T, A: Allocator> Vec<T, A> {
             → CanContinue I.Iterator iter.old (self.old.capacity - len self.old) iter.new }
         ensures within { self.old.capacity - len self.old - result ≤ size (I.remaining iter.old) }
     {
-        self.fill_gap(self.free(), 0, iter)
+        let free = self.capacity() - self.len();
+        let (left, _iter) = replace_with(self, (iter, free, 0), with_gap_filled);
+        left
     }
 
     // Appends the items of `iter`. Each is taken first. If the vector is full then, capacity is

@@ -104,7 +104,11 @@ impl<T, A: Allocator> Vec<T, A> {
             count result f.new self.new }
     {
         self.block.prove_capacity_bounds();
-        count_kept(self.block.slice_mut(self.len + gap, count), false, f)
+        let elements = self.block.slice_mut(self.len + gap, count);
+        if count < 2 {
+            return count_kept::<0, T, F>(elements, false, f);
+        }
+        count_kept::<2, T, F>(elements, false, f)
     }
 }
 

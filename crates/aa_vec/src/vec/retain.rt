@@ -6,7 +6,7 @@ ghost use Rattle.aa_vec.specs.Choosing.{CallableAtMut, Reads, IsCallableInOrder,
 ghost use Rattle.aa_vec.specs.Until.{CallsOnTail, KeepsWhen, CallsUntil};
 
 use crate::vec::Vec;
-use crate::vec::tail::steps::{step_over, step_over_many};
+use crate::vec::tail::steps::step_over;
 use core::mem::replace_with;
 use std::alloc::Allocator;
 
@@ -61,15 +61,16 @@ impl<T: Drop, A: Allocator> Vec<T, A> {
 
 impl<T, A: Allocator> Vec<T, A> {
     // Calls `keep` for the `count` elements after the gap in order, up to the first that is not
-    // kept. Returns how many are kept before it.
+    // kept. Returns how many are kept before it. There are at least `LEAST`.
     #[inline(always)]
     #[tactic(auto, using(crate::proofs::Chains::borrowed))]
-    fn count_kept_in_tail<F: FnMut(&mut T) -> bool>(
+    fn count_kept_in_tail<const LEAST: usize, F: FnMut(&mut T) -> bool>(
         &mut self,
         gap: usize,
         count: usize,
         keep: &mut F,
     ) -> usize
+        requires least { LEAST ≤ count }
         requires has_tail { HasTail self.old gap count }
         requires callable { MayCallInOrder (CalledAtMut F.FnMut) (CallableAtMut F.FnMut) keep.old
             (tail_items self.old gap count) }
@@ -79,27 +80,7 @@ impl<T, A: Allocator> Vec<T, A> {
         // Like `prove_capacity_bounds`; but the loops that this becomes part of are faster if the
         // capacity is read.
         let _within = self.block.capacity();
-        count_kept(self.block.slice_mut(self.len + gap, count), true, keep)
-    }
-
-    // The same for at least two elements.
-    #[inline(always)]
-    #[tactic(auto, using(crate::proofs::Chains::borrowed))]
-    fn count_kept_in_tail_many<F: FnMut(&mut T) -> bool>(
-        &mut self,
-        gap: usize,
-        count: usize,
-        keep: &mut F,
-    ) -> usize
-        requires some { 1 < count }
-        requires has_tail { HasTail self.old gap count }
-        requires callable { MayCallInOrder (CalledAtMut F.FnMut) (CallableAtMut F.FnMut) keep.old
-            (tail_items self.old gap count) }
-        ensures { CallsOnTail (CalledAtMut F.FnMut) keep.old self.old gap count
-            result keep.new self.new }
-    {
-        let _within = self.block.capacity();
-        count_kept_many(self.block.slice_mut(self.len + gap, count), true, keep)
+        count_kept::<LEAST, T, F>(self.block.slice_mut(self.len + gap, count), true, keep)
     }
 }
 
@@ -115,86 +96,55 @@ fn retain_owned<'a, T: Drop, A: Allocator, F: FnMut(&mut T) -> bool>(
     ensures retained { Retains (CalledAtMut F.FnMut) keep.old list result.1.now result.0 }
 {
     let end = list.set_tail(0);
-    let mut at = 0;
-    let first = list.count_kept_in_tail(0, end - at, keep);
-    (list, at) = step_over_many(list, 0, at, end, first);
+    let mut at;
+    let first = list.count_kept_in_tail::<0, F>(0, end, keep);
+    (list, at) = step_over::<0, T, A>(list, 0, end, first);
     if end <= at {
         return (list, keep);
     }
     'runs: while at < end - 1 {
         let gap = at - list.len();
-        let kept = list.count_kept_in_tail_many(gap, end - at, keep);
-        (list, at) = step_over(list, gap, at, end, kept);
+        let kept = list.count_kept_in_tail::<2, F>(gap, end - at, keep);
+        (list, at) = step_over::<2, T, A>(list, at, end, kept);
     }
     if end <= at {
         return (list, keep);
     }
     let gap = at - list.len();
-    let rest = list.count_kept_in_tail(gap, end - at, keep);
-    (list, _) = step_over_many(list, gap, at, end, rest);
+    let rest = list.count_kept_in_tail::<0, F>(gap, end - at, keep);
+    (list, _) = step_over::<0, T, A>(list, at, end, rest);
     (list, keep)
 }
 
 // Calls `keep` for the elements in order, up to the first that is not kept. An element is kept if
-// the result is the given one. Returns how many are kept before it. The first two are tested one by
-// one: if one of them is removed, that is far cheaper than a run.
+// the result is the given one. Returns how many are kept before it. There are at least `LEAST`. If
+// these are two, they are tested one by one: if one is removed, that is far cheaper than a run.
 #[inline(always)]
-pub(crate) fn count_kept<T, F: FnMut(&mut T) -> bool>(
+#[tactic(auto, using(crate::proofs::Calling::calls))]
+pub(crate) fn count_kept<const LEAST: usize, T, F: FnMut(&mut T) -> bool>(
     elements: &mut [T],
     keep_when: bool,
     keep: &mut F,
 ) -> usize
-    requires { MayCallInOrder (KeepsWhen keep_when (CalledAtMut F.FnMut))
-        (CallableAtMut F.FnMut) keep.old elements.old }
-    ensures { CallsUntil (KeepsWhen keep_when (CalledAtMut F.FnMut))
-        keep.old elements.old result keep.new elements.new }
-{
-    if elements.len() < 2 {
-        return kept_run(elements, keep_when, keep);
-    }
-    count_kept_many(elements, keep_when, keep)
-}
-
-// The same for at least two elements.
-#[inline(always)]
-fn count_kept_many<T, F: FnMut(&mut T) -> bool>(
-    elements: &mut [T],
-    keep_when: bool,
-    keep: &mut F,
-) -> usize
-    requires some { 1 < length elements.old }
+    requires least { LEAST ≤ length elements.old }
     requires callable { MayCallInOrder (KeepsWhen keep_when (CalledAtMut F.FnMut))
         (CallableAtMut F.FnMut) keep.old elements.old }
-    ensures { CallsUntil (KeepsWhen keep_when (CalledAtMut F.FnMut))
-        keep.old elements.old result keep.new elements.new }
-{
-    // It does nothing, but lets the prover know that a slice has at most `usize::MAX` elements.
-    let _count = count_of(elements);
-    let (first, others) = elements.split_at_mut(1);
-    if !call_keeps(keep, &mut first[0], keep_when) {
-        return 0;
-    }
-    let (second, rest) = others.split_at_mut(1);
-    if !call_keeps(keep, &mut second[0], keep_when) {
-        return 1;
-    }
-    2 + kept_run(rest, keep_when, keep)
-}
-
-// The same in one loop.
-#[inline]
-#[tactic(auto, using(crate::proofs::Calling::calls))]
-fn kept_run<T, F: FnMut(&mut T) -> bool>(elements: &mut [T], keep_when: bool, keep: &mut F) -> usize
-    requires { MayCallInOrder (KeepsWhen keep_when (CalledAtMut F.FnMut))
-        (CallableAtMut F.FnMut) keep.old elements.old }
-    ensures within { result ≤ length elements.old }
-    ensures called { CallsUntil (KeepsWhen keep_when (CalledAtMut F.FnMut)) keep.old elements.old
+    ensures { CallsUntil (KeepsWhen keep_when (CalledAtMut F.FnMut)) keep.old elements.old
         result keep.new elements.new }
 {
     let count = elements.len();
     let mut kept = 0;
+    if 1 < LEAST {
+        if !call_keeps(keep, &mut elements[0], keep_when) {
+            return 0;
+        }
+        if !call_keeps(keep, &mut elements[1], keep_when) {
+            return 1;
+        }
+        kept = 2;
+    }
     'each: while kept < count {
-        if call_on(keep, &mut elements[kept]) != keep_when {
+        if !call_keeps(keep, &mut elements[kept], keep_when) {
             return kept;
         }
         kept += 1;
@@ -202,29 +152,13 @@ fn kept_run<T, F: FnMut(&mut T) -> bool>(elements: &mut [T], keep_when: bool, ke
     count
 }
 
-// Returns the number of elements.
+// Calls `keep` once, and returns whether the element is kept, which it is if the result is the
+// given one.
 #[inline(always)]
-fn count_of<T>(elements: &[T]) -> usize
-    ensures { result ≡ length elements.now }
+fn call_keeps<T, F: FnMut(&mut T) -> bool>(keep: &mut F, element: &mut T, keep_when: bool) -> bool
+    requires { CallableAtMut F.FnMut keep.old element.old }
+    ensures { KeepsWhen keep_when (CalledAtMut F.FnMut) keep.old element.old result
+        keep.new element.new }
 {
-    elements.len()
-}
-
-// Calls `f` once.
-#[inline(always)]
-pub(crate) fn call_on<T, R, F: FnMut(&mut T) -> R>(f: &mut F, element: &mut T) -> R
-    requires { CallableAtMut F.FnMut f.old element.old }
-    ensures { CalledAtMut F.FnMut f.old element.old result f.new element.new }
-{
-    f(element)
-}
-
-// Calls `f` once, and returns whether the element is kept, which it is if the result is the given
-// one.
-#[inline(always)]
-fn call_keeps<T, F: FnMut(&mut T) -> bool>(f: &mut F, element: &mut T, keep_when: bool) -> bool
-    requires { CallableAtMut F.FnMut f.old element.old }
-    ensures { KeepsWhen keep_when (CalledAtMut F.FnMut) f.old element.old result f.new element.new }
-{
-    call_on(f, element) == keep_when
+    keep(element) == keep_when
 }

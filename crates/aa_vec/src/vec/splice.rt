@@ -131,47 +131,13 @@ where
     }
 }
 
-// Ends a splice: drops what was not taken of the range, and replaces it with the items of `iter`,
-// by their lower bound. The two functions below are built on it.
-fn finish_with_bound<W: LowerBound<I>, I: Iterator, A: Allocator + Clone>(
-    vec: &mut Vec<I::Item, A>,
-    front: usize,
-    back: usize,
-    end: usize,
-    total: usize,
-    iter: &mut I,
-) -> Result<(), TryReserveError>
-where
-    I::Item: Drop,
-    requires ordered { (front ≤ back) × (back ≤ end) × (end ≤ total) }
-    requires has_tail { HasTail vec.old front (back - front)
-        × HasTail vec.old end (total - end) }
-    requires callable { I.can_next iter.old }
-    requires finite { IsFinite (I.remaining iter.old) }
-    ensures { Replaced I.Iterator W.lower_is (¬ (A.is_infallible vec.old.alloc))
-        (type_size I.Item.row) iter.old
-        (gapped vec.old vec.old.items end (tail_items vec.old end (total - end)))
-        result vec.new }
-{
-    let count = total - end;
-    vec.drop_from_tail(front, back - front);
-    if count == 0 {
-        return vec.extend_with_bound::<W, I>(iter);
-    }
-    if vec.fill_and_close(end, count, iter) != 0 {
-        return Ok(());
-    }
-    let bound = W::lower_bound(iter);
-    vec.put_more::<W, I>(bound, count, iter)
-}
-
 impl<'a, I: Iterator, A: Allocator + Clone> Splice<'a, I, A>
 where
     I::Item: Drop,
 {
     ghost use Rattle.aa_vec.specs.Splice.{splice_gap, splice_iter};
 
-    // Ends a splice, with the lower bound that `W` returns.
+    // Ends a splice, with the lower bound that `W` returns. The two functions below are built on it.
     fn finish_by<W: LowerBound<I>>(self) -> Result<(), TryReserveError>
         requires callable { I.can_next (splice_iter self) }
         requires finite { IsFinite (I.remaining (splice_iter self)) }
@@ -190,7 +156,8 @@ where
         Self::finish_parts::<W>(vec, front, back, end, total, iter)
     }
 
-    // The same, from the parts of a splice.
+    // The same, from the parts of a splice: drops what was not taken of the range, and replaces it
+    // with the items of `iter`.
     fn finish_parts<W: LowerBound<I>>(
         vec: &'a mut Vec<I::Item, A>,
         front: usize,
@@ -210,7 +177,16 @@ where
             result vec.new }
     {
         let mut items = iter;
-        finish_with_bound::<W, I, A>(vec, front, back, end, total, &mut items)
+        let count = total - end;
+        vec.drop_from_tail(front, back - front);
+        if count == 0 {
+            return vec.extend_with_bound::<W, I>(&mut items);
+        }
+        if vec.fill_and_close(end, count, &mut items) != 0 {
+            return Ok(());
+        }
+        let bound = W::lower_bound(&items);
+        vec.put_more::<W, I>(bound, count, &mut items)
     }
 }
 

@@ -8,7 +8,7 @@ use aa_raw::counter::Counter;
 use aa_raw::raw_vec::RawVec;
 use std::alloc::Allocator;
 
-mod gap;
+pub(crate) mod gap;
 mod moves;
 pub(crate) mod steps;
 

@@ -15,30 +15,8 @@ use std::alloc::Allocator;
 
 impl<T, A: Allocator> Vec<T, A> {
     // Moves items of `iter` into the gap before the `count` elements of the tail, until the gap is
-    // full or the iterator ends. Returns how many places of the gap are left.
-    #[inline(always)]
-    pub(crate) fn fill_gap<I: Iterator<Item = T>>(
-        &mut self,
-        gap: usize,
-        count: usize,
-        iter: &mut I,
-    ) -> usize
-        // The tail comes after the gap, and the iterator is finite.
-        requires has_tail { HasTail self.old gap count }
-        requires callable { I.can_next iter.old }
-        requires finite { IsFinite (I.remaining iter.old) }
-
-        // The gap is filled as far as there are items.
-        ensures filled { FillsGap I.next_gives iter.old self.old gap count result iter.new self.new }
-        ensures advanced { result ≡ 0 → CanContinue I.Iterator iter.old gap iter.new }
-        ensures within { gap - result ≤ size (I.remaining iter.old) }
-    {
-        let (left, _iter) = replace_with(self, (iter, gap, count), with_gap_filled);
-        left
-    }
-
-    // Like `fill_gap`, and then moves the `count` elements down. Returns how many places of the gap
-    // were left.
+    // full or the iterator ends, and then moves these down. Returns how many places of the gap were
+    // left.
     pub(crate) fn fill_and_close<I: Iterator<Item = T>>(
         &mut self,
         gap: usize,
@@ -56,7 +34,7 @@ impl<T, A: Allocator> Vec<T, A> {
         ensures advanced { result ≡ 0 → CanContinue I.Iterator iter.old gap iter.new }
         ensures within { gap - result ≤ size (I.remaining iter.old) }
     {
-        let left = self.fill_gap(gap, count, iter);
+        let (left, _iter) = replace_with(self, (iter, gap, count), with_gap_filled);
         self.close_gap(left, count);
         left
     }
@@ -147,7 +125,7 @@ impl<T, A: Allocator> Vec<T, A> {
     {
         let mut more = self.gather::<W, I>(first, iter)?;
         self.widen(more.len(), count)?;
-        self.fill_from(&mut more);
+        self.take_from(&mut more, 0);
         self.close_gap(0, count);
         Ok(())
     }
@@ -180,13 +158,14 @@ impl<T, A: Allocator> Vec<T, A> {
     }
 }
 
-// `fill_gap` over a vector that it owns: nothing that is stored in its places can then change its
-// fields, which are kept in registers. `from` has the iterator, the places of the gap, and the
-// number of elements after it. The iterator is returned. The last number is for the contract alone:
-// a function has no parameter that only contracts see.
+// Moves items of an iterator into the gap of a vector that it owns, until the gap is full or the
+// iterator ends. Nothing that is stored in its places can then change its fields, which are kept in
+// registers. `from` has the iterator, the places of the gap, and the number of elements after it.
+// Returns how many places of the gap are left, and the iterator. The last number is for the contract
+// alone: a function has no parameter that only contracts see.
 #[inline(always)]
 #[tactic(auto, using(crate::proofs::Filling::gaps))]
-fn with_gap_filled<'a, T, A: Allocator, I: Iterator<Item = T>>(
+pub(crate) fn with_gap_filled<'a, T, A: Allocator, I: Iterator<Item = T>>(
     mut list: Vec<T, A>,
     from: (&'a mut I, usize, usize),
 ) -> (Vec<T, A>, (usize, &'a mut I))

@@ -40,14 +40,18 @@ impl<T, A: Allocator> Vec<T, A> {
     // Like `close_gap`, for one element and a gap of at least one place. This is far less work than
     // moving a run.
     #[inline(always)]
-    #[tactic(auto, using(crate::proofs::Tails::closing))]
+    #[tactic(auto, using(crate::proofs::Gaps::closed, crate::proofs::Becoming::becomes, crate::proofs::Tidy::fewer))]
     pub(crate) fn close_gap_by_one(&mut self, gap: usize)
         requires some { 0 < gap }
         requires has_tail { HasTail self.old gap 1 }
         ensures { ClosesGap self.old gap 1 self.new }
     {
-        let item = self.take_from_tail(gap);
-        self.put_next(item);
+        let len = self.len;
+        let _within = self.block.capacity();
+        self.len = len + 1;
+        self.settled.add(1);
+        let item = self.block.take(len + gap);
+        self.block.put(len, item);
     }
 
     // Takes the first element after the gap out of its place, and returns it.

@@ -1,7 +1,7 @@
 use Rattle.aa_vec.proofs.Common.{◌-◌, ◌<◌, arith, length-run, run-zero, ⊤}
 use Rattle.aa_vec.proofs.TailLemmas.{dropped_are, dropped_tail}
 use Rattle.aa_vec.proofs.SpliceLemmas.{Spliced-extended, Spliced-ended, Spliced-more, filled_len}
-use Rattle.aa_vec.proofs.vec.splice.finish_with_bound.Goals as goal
+use Rattle.aa_vec.proofs.vec.splice.Splice.finish_parts.Goals as goal
 
 -- nothing is after the range
 pub returns-then-count-eq0 : goal.returns-then-count-eq0

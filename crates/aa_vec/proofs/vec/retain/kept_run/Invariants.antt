@@ -1,9 +1,0 @@
-use Rattle.aa_vec.proofs.Common.{◌-◌, CalledAtMut, CallableAtMut}
-use Rattle.aa_vec.proofs.Calling.{HasCalled}
-use Rattle.aa_vec.proofs.vec.retain.kept_run.Given as goal
-
-abbrev pub invariant-each : goal.invariant-each
-invariant-each g l = HasCalled (CalledAtMut g.F.FnMut) (CallableAtMut g.F.FnMut) l.fn.keep_when l.fn.keep l.fn.elements l.kept l.keep l.elements
-
-abbrev pub decreases-each : goal.decreases-each
-decreases-each g l = l.count - l.kept
