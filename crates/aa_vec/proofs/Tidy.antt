@@ -203,11 +203,5 @@ module _ {X : Type 0} (cs : List (Option X)) (l gap n : ℕ) (has_tail : IsRun (
   unfolding count_from
   count-cleared = omega (arith, few-cleared cs l 0 (count_from cs l) (omega arith) gap n fits there_in n (omega arith))
 
--- the first element after a gap taken, and the first place used
-pub count-by_one : {X : Type 0} (cs : List (Option X)) (gap : ℕ) → IsRun (drop gap cs) 0 1 → (ds : List (Option X)) → ds ≡ slice_set cs gap None → (es : List (Option X)) → es ≡ drop 1 ds → count_from es 0 + 1 ≤ count_from cs 0
-unfolding count_from
-count-by_one cs gap r ds taken es less =
-    rw (less, taken) (count-after (slice_set cs gap None) cs 1 0 gap 1 0 0 0 (count_from cs 0) 1 (count_from cs 0) (omega arith) (all_in 1 (drop gap cs) r.0 r.1) (omega arith) (omega arith) (λ i h u c d. grind (arith, places, nat_tests, get_or-set_at cs gap i None None, r.0, length-drop, c, d)))
-
 -- how many fewer are left after the items
 pub ruleset fewer = (count-lowered, count-cleared)

@@ -1,10 +1,10 @@
 //! Removal of repeated elements.
 ghost use Rattle.std.specs.Prelude.{◌≡◌, Bool, ◌+◌, ◌-◌, ◌<◌, ◌≤◌, [], ◌∷◌, ◌++◌, List, drop, length};
 ghost use Rattle.std.specs.List.{dedup};
-ghost use Rattle.std.specs.Fn.{CalledAtMut, CalledAtPairMut, ComparesKeys};
+ghost use Rattle.std.specs.Fn.{CalledAtPairMut, ComparesKeys};
 ghost use Rattle.aa_raw.specs.Closures.{CallableAtPairMut};
 ghost use Rattle.aa_vec.specs.Tail.{HasTail, tail_items};
-ghost use Rattle.aa_vec.specs.Choosing.{CallableAtKeys, CallableAtMut, Equals, IsCallableAlong, MayChainFrom, MayDeduplicate, IsPureTest, Deduplicates};
+ghost use Rattle.aa_vec.specs.Choosing.{CallableAtKeys, Equals, IsCallableAlong, MayChainFrom, MayDeduplicate, IsPureTest, Deduplicates};
 ghost use Rattle.aa_vec.specs.Until.{CallsOnLast, ChainsInTail, ChainsOnTail, CallsOnNeighbours, ChainsAlong};
 ghost use Rattle.aa_vec.specs.Vector.{len};
 
@@ -253,21 +253,7 @@ fn call_on_neighbours<T, F: FnMut(&mut T, &mut T) -> bool>(
         result same.new elements.new }
 {
     let (before, after) = elements.split_at_mut(at + 1);
-    call_on_pair(same, &mut after[0], &mut before[at])
-}
-
-// Calls `same` once, with one lifetime for both elements.
-#[inline(always)]
-fn call_on_pair<'a, T, F: FnMut(&mut T, &mut T) -> bool>(
-    same: &mut F,
-    element: &'a mut T,
-    last: &'a mut T,
-) -> bool
-    requires { CallableAtPairMut F.FnMut same.old element.old last.old }
-    ensures { CalledAtPairMut F.FnMut same.old element.old last.old result
-        same.new element.new last.new }
-{
-    same(element, last)
+    same(&mut after[0], &mut before[at])
 }
 
 // Returns whether the keys are equal. `key` is called for `element` first.
@@ -281,16 +267,7 @@ fn same_keys<T, K: PartialEq + Drop, F: FnMut(&mut T) -> K>(
     ensures { ComparesKeys F.FnMut K.eq key.old element.old last.old result
         key.new element.new last.new }
 {
-    let first = call_on(key, element);
-    let second = call_on(key, last);
+    let first = key(element);
+    let second = key(last);
     first == second
-}
-
-// Calls `f` once.
-#[inline(always)]
-fn call_on<T, R, F: FnMut(&mut T) -> R>(f: &mut F, element: &mut T) -> R
-    requires { CallableAtMut F.FnMut f.old element.old }
-    ensures { CalledAtMut F.FnMut f.old element.old result f.new element.new }
-{
-    f(element)
 }

@@ -1,4 +1,14 @@
+use Rattle.std.proofs.Common.{rules, refl}
+use Rattle.aa_vec.proofs.Common.{CalledAtMut}
 use Rattle.aa_vec.proofs.vec.dedup.same_keys.Goals as goal
 
-pub call_on-second-requires : goal.call_on-second-requires
-call_on-second-requires g c = c.requires.1 _ _ _ c.call_on-first.ensures
+pub key-second-requires : goal.key-second-requires
+key-second-requires g c =
+    let called : CalledAtMut g.F.FnMut c.args.key.now c.args.element.now c.key-first.result c.key-first.new.self c.key-first.new.arg2 = search rules in
+    c.requires.1 _ _ _ called _ refl
+
+pub returns : goal.returns
+returns g c =
+    let first : CalledAtMut g.F.FnMut c.args.key.now c.args.element.now c.key-first.result c.key-first.new.self c.key-first.new.arg2 = search rules in
+    let second : CalledAtMut g.F.FnMut c.key-first.new.self c.args.last.now c.key-second.result c.key-second.new.self c.key-second.new.arg2 = search rules in
+    search (rules, first, second)
