@@ -83,6 +83,7 @@ impl<T, A: Allocator, const N: usize> InlineVec<T, A, N> {
     }
 
     // Returns how many more items fit.
+    #[inline]
     fn room(&self) -> usize
         ensures { result ≡ capacity N self.now - length self.now.items }
     {
@@ -165,6 +166,7 @@ impl<T: MadeWith<A> + Drop, A: Allocator + Copy, const N: usize> InlineVec<T, A,
     /// `CapacityOverflow` if the new length would exceed `usize::MAX` or the block would be too
     /// large. `AllocError` with the requested capacity if the allocation fails. The vector is
     /// unchanged.
+    #[inline]
     #[tactic(auto, unfolding(crate::specs::Inlined::with_room), using(std::proofs::lemmas::Bool::Decides::nat_tests))]
     pub fn reserve(&mut self, additional: usize) -> Result<(), TryReserveError>
         // If they fit, the call succeeds.
@@ -198,6 +200,7 @@ impl<T: MadeWith<A> + Drop, A: Allocator + Copy, const N: usize> InlineVec<T, A,
     /// large. `AllocError` with the requested capacity if the allocation fails. The vector is
     /// unchanged and `item` is returned in the error.
     #[inline]
+    #[tactic(auto, unfolding(crate::specs::Inlined::with_room), using(std::proofs::lemmas::Bool::Decides::nat_tests))]
     pub fn push(&mut self, item: T) -> Result<(), Refused<T>>
         ensures fits { HasRoom N self.old 1 → IsOk result }
         ensures pushed { let roomy = with_room (type_size T.row) N self.old 1 in
@@ -206,11 +209,8 @@ impl<T: MadeWith<A> + Drop, A: Allocator + Copy, const N: usize> InlineVec<T, A,
         ensures error { IfErr result (λ r. LacksRoom (type_size T.row) N self.old 1 r.error) }
         ensures unchanged { OnErr result (self.new ≡ self.old) }
     {
-        if let Err(error) = self.reserve(1) {
-            return Err(Refused {
-                source: item,
-                error,
-            });
+        if self.room() == 0 {
+            return self.push_full(item);
         }
         self.put_last(item);
         Ok(())
@@ -317,6 +317,8 @@ impl<T: MadeWith<A> + Drop, A: Allocator + Copy, const N: usize> InlineVec<T, A,
 
     // Moves the items into a block, or into a larger one, with capacity for `additional` more
     // items, which do not fit.
+    #[cold]
+    #[inline(never)]
     #[tactic(auto, using(allocator_api2::proofs::Blocks::numbers), unfolding(crate::specs::Inlined::in_block, crate::specs::Inlined::LacksRoom, crate::specs::Inlined::LacksBlock))]
     fn spill(&mut self, additional: usize) -> Result<(), TryReserveError>
         // The additional items do not fit.
@@ -347,7 +349,29 @@ impl<T: MadeWith<A> + Drop, A: Allocator + Copy, const N: usize> InlineVec<T, A,
         }
     }
 
+    // `push` onto a full vector, out of line.
+    #[cold]
+    #[inline(never)]
+    fn push_full(&mut self, last: T) -> Result<(), Refused<T>>
+        requires { capacity N self.old - length self.old.items ≡ 0 }
+        ensures pushed { let roomy = in_block (type_size T.row) (length self.old.items + 1) self.old in
+            OnOk result (self.new ≡ with_written roomy (self.old.items ++ last ∷ []) 1) }
+        ensures returned { IfErr result (λ r. r.source ≡ last) }
+        ensures error { IfErr result (λ r. LacksRoom (type_size T.row) N self.old 1 r.error) }
+        ensures unchanged { OnErr result (self.new ≡ self.old) }
+    {
+        if let Err(error) = self.spill(1) {
+            return Err(Refused {
+                source: last,
+                error,
+            });
+        }
+        self.put_last(last);
+        Ok(())
+    }
+
     // Appends `item`, which must fit.
+    #[inline]
     fn put_last(&mut self, item: T)
         requires { HasRoom N self.old 1 }
         ensures { self.new ≡ with_written self.old (self.old.items ++ item ∷ []) 1 }
