@@ -351,7 +351,7 @@ impl<T, A: Allocator> RawVec<T, A> {
         if from == to {
             return;
         }
-        self.row.move_run(from, to, count);
+        self.row.move_run((from, count), to);
         self.written.add(count);
         if count != 0 {
             self.runs.add(1);
@@ -369,7 +369,7 @@ impl<T, A: Allocator> RawVec<T, A> {
         if from == to {
             return;
         }
-        self.row.move_run_down(from, to, count);
+        self.row.move_run_down((from, count), to);
         self.written.add(count);
         if count != 0 {
             self.runs.add(1);
@@ -387,7 +387,7 @@ impl<T, A: Allocator> RawVec<T, A> {
             self.new ≡ with_written self.old (with_run self.old.places to count values) count }
         ensures emptied { other.new ≡ without other.old from count }
     {
-        self.row.take_run(to, &mut other.row, from, count);
+        self.row.take_run(to, &mut other.row, (from, count));
         self.written.add(count);
         if count != 0 {
             self.runs.add(1);
@@ -651,7 +651,7 @@ impl<T, A: Allocator> RawVec<T, A> {
     {
         match new_row(&self.alloc, capacity) {
             Ok((mut row, claim)) => {
-                row.take_run(0, &mut self.row, 0, len);
+                row.take_run(0, &mut self.row, (0, len));
                 self.replace_row(capacity, row, claim);
                 true
             }

@@ -151,8 +151,8 @@ impl<T, A: Allocator> RawVec<T, A> {
     {
         match new_row(&self.alloc, capacity) {
             Ok((mut row, claim)) => {
-                row.take_run(0, &mut self.row, first.0, first.1);
-                row.take_run(to, &mut self.row, second.0, second.1);
+                row.take_run(0, &mut self.row, first);
+                row.take_run(to, &mut self.row, second);
                 self.replace_row(capacity, row, claim);
                 self.grown.add_moved(first.1 + second.1);
                 true

@@ -9,20 +9,21 @@ use crate::size::element_size;
 const PART: usize = 8128;
 
 impl<T> Row<T> {
-    /// Moves the `count` values from the place `from` of `other` on to the places from `to` on.
+    /// Moves the values of a run of `other`, given by its first place and how many it has, to the
+    /// places from `to` on.
     #[inline]
-    pub(crate) fn take_run(&mut self, to: usize, other: &mut Row<T>, from: usize, count: usize)
-        requires room { (to + count ≤ length self.old.places) × (length self.old.places < 2 ^ 64) }
-        requires filled { IsRun other.old.places from count × (length other.old.places < 2 ^ 64) }
+    pub(crate) fn take_run(&mut self, to: usize, other: &mut Row<T>, run: (usize, usize))
+        requires room { (to + run.1 ≤ length self.old.places) × (length self.old.places < 2 ^ 64) }
+        requires filled { IsRun other.old.places run.0 run.1 × (length other.old.places < 2 ^ 64) }
         ensures moved { (self.new.ptr ≡ self.old.ptr)
             × (self.new.places
-            ≡ with_run self.old.places to count (take count (drop from other.old.places))) }
+            ≡ with_run self.old.places to run.1 (take run.1 (drop run.0 other.old.places))) }
         ensures emptied { (other.new.ptr ≡ other.old.ptr)
-            × (other.new.places ≡ with_run other.old.places from count (replicate count None)) }
+            × (other.new.places ≡ with_run other.old.places run.0 run.1 (replicate run.1 None)) }
     {
         let row = self.cut(0);
         let source = other.cut(0);
-        let (row, source) = move_across(row, to, source, from, count);
+        let (row, source) = move_across(row, to, source, run);
         self.join(row);
         other.join(source);
     }
@@ -34,27 +35,25 @@ impl<T> Row<T> {
         &mut self,
         to: usize,
         other: &mut Row<T>,
-        from: usize,
-        count: usize,
+        run: (usize, usize),
     )
-        requires room { to + count ≤ length self.old.places }
-        requires filled { IsRun other.old.places from count }
+        requires room { to + run.1 ≤ length self.old.places }
+        requires filled { IsRun other.old.places run.0 run.1 }
         ensures moved { (self.new.ptr ≡ self.old.ptr)
             × (self.new.places
-            ≡ with_run self.old.places to count (take count (drop from other.old.places))) }
+            ≡ with_run self.old.places to run.1 (take run.1 (drop run.0 other.old.places))) }
         ensures emptied { (other.new.ptr ≡ other.old.ptr)
-            × (other.new.places ≡ with_run other.old.places from count (replicate count None)) }
+            × (other.new.places ≡ with_run other.old.places run.0 run.1 (replicate run.1 None)) }
     {
         let row = self.cut(to);
-        let source = other.cut(from);
-        let (row, source) = copy_apart(row, source, count);
+        let source = other.cut(run.0);
+        let (row, source) = copy_apart(row, source, run.1);
         self.join(row);
         other.join(source);
     }
 }
 
-/// Moves the `count` values from the place `from` of `source` on to the places from `to` of `row`
-/// on, and returns both rows.
+/// Moves the values of a run of `source` to the places from `to` of `row` on, and returns both rows.
 ///
 /// Up to one part is moved inline, with one copy of memory. More is moved in parts, out of line.
 #[inline]
@@ -62,21 +61,20 @@ pub(super) fn move_across<T>(
     mut row: Row<T>,
     to: usize,
     mut source: Row<T>,
-    from: usize,
-    count: usize,
+    run: (usize, usize),
 ) -> (Row<T>, Row<T>)
-    requires room { (to + count ≤ length row.places) × (length row.places < 2 ^ 64) }
-    requires filled { IsRun source.places from count × (length source.places < 2 ^ 64) }
+    requires room { (to + run.1 ≤ length row.places) × (length row.places < 2 ^ 64) }
+    requires filled { IsRun source.places run.0 run.1 × (length source.places < 2 ^ 64) }
     ensures moved { (result.0.ptr ≡ row.ptr)
-        × (result.0.places ≡ with_run row.places to count (take count (drop from source.places))) }
+        × (result.0.places ≡ with_run row.places to run.1 (take run.1 (drop run.0 source.places))) }
     ensures emptied { (result.1.ptr ≡ source.ptr)
-        × (result.1.places ≡ with_run source.places from count (replicate count None)) }
+        × (result.1.places ≡ with_run source.places run.0 run.1 (replicate run.1 None)) }
 {
     let size = element_size::<T>();
-    if size != 0 && PART / size.clamp(1, PART) < count {
-        return move_across_in_parts(row, to, source, from, count);
+    if size != 0 && PART / size.clamp(1, PART) < run.1 {
+        return move_across_in_parts(row, to, source, run);
     }
-    row.take_run_in_one_copy(to, &mut source, from, count);
+    row.take_run_in_one_copy(to, &mut source, run);
     (row, source)
 }
 
@@ -89,22 +87,22 @@ fn move_across_in_parts<T>(
     mut row: Row<T>,
     to: usize,
     mut source: Row<T>,
-    from: usize,
-    count: usize,
+    run: (usize, usize),
 ) -> (Row<T>, Row<T>)
-    requires room { (to + count ≤ length row.places) × (length row.places < 2 ^ 64) }
-    requires filled { IsRun source.places from count × (length source.places < 2 ^ 64) }
+    requires room { (to + run.1 ≤ length row.places) × (length row.places < 2 ^ 64) }
+    requires filled { IsRun source.places run.0 run.1 × (length source.places < 2 ^ 64) }
     ensures moved { (result.0.ptr ≡ row.ptr)
-        × (result.0.places ≡ with_run row.places to count (take count (drop from source.places))) }
+        × (result.0.places ≡ with_run row.places to run.1 (take run.1 (drop run.0 source.places))) }
     ensures emptied { (result.1.ptr ≡ source.ptr)
-        × (result.1.places ≡ with_run source.places from count (replicate count None)) }
+        × (result.1.places ≡ with_run source.places run.0 run.1 (replicate run.1 None)) }
 {
+    let (from, count) = run;
     let part = PART / element_size::<T>().clamp(1, PART);
     let mut at = 0;
     'parts: while part < count - at {
-        row.take_run_in_one_copy(to + at, &mut source, from + at, part);
+        row.take_run_in_one_copy(to + at, &mut source, (from + at, part));
         at += part;
     }
-    row.take_run_in_one_copy(to + at, &mut source, from + at, count - at);
+    row.take_run_in_one_copy(to + at, &mut source, (from + at, count - at));
     (row, source)
 }

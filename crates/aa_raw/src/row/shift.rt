@@ -21,16 +21,17 @@ impl<T> Row<T> {
         self.write_array(to, items);
     }
 
-    /// Moves the `count` values from the place `from` on to the places from `to` on. The two ranges
-    /// may overlap.
+    /// Moves the values of a run, given by its first place and how many it has, to the places from
+    /// `to` on. The two ranges may overlap.
     #[inline]
     #[tactic(auto, using(crate::proofs::Places::cut_moves))]
-    pub(crate) fn move_run(&mut self, from: usize, to: usize, count: usize)
-        requires { IsRun self.old.places from count × (to + count ≤ length self.old.places)
+    pub(crate) fn move_run(&mut self, run: (usize, usize), to: usize)
+        requires { IsRun self.old.places run.0 run.1 × (to + run.1 ≤ length self.old.places)
             × (length self.old.places < 2 ^ 64) }
         ensures { (self.new.ptr ≡ self.old.ptr)
-            × (self.new.places ≡ moved self.old.places from to count) }
+            × (self.new.places ≡ moved self.old.places run.0 to run.1) }
     {
+        let (from, count) = run;
         if from < to {
             let run = self.cut(from);
             self.join(shift_up(run, to - from, count));
@@ -40,15 +41,16 @@ impl<T> Row<T> {
         }
     }
 
-    /// Like `move_run`, for a `to` before `from`. A few values are moved inline.
+    /// Like `move_run`, for a `to` before the run. A few values are moved inline.
     #[inline(always)]
     #[tactic(auto, using(crate::proofs::Places::cut_moves))]
-    pub(crate) fn move_run_down(&mut self, from: usize, to: usize, count: usize)
-        requires { IsRun self.old.places from count × (to < from)
+    pub(crate) fn move_run_down(&mut self, run: (usize, usize), to: usize)
+        requires { IsRun self.old.places run.0 run.1 × (to < run.0)
             × (length self.old.places < 2 ^ 64) }
         ensures { (self.new.ptr ≡ self.old.ptr)
-            × (self.new.places ≡ moved self.old.places from to count) }
+            × (self.new.places ≡ moved self.old.places run.0 to run.1) }
     {
+        let (from, count) = run;
         let run = self.cut(to);
         self.join(shift_down_inline(run, from - to, count));
     }
@@ -357,9 +359,9 @@ fn shift_up_in_pieces<T>(mut row: Row<T>, by: usize, count: usize) -> Row<T>
     let mut left = count;
     'up: while by <= left {
         left -= by;
-        row = shift_up_apart(row, left, by + left, by);
+        row = shift_up_apart(row, (left, by), by + left);
     }
-    shift_up_apart(row, 0, by, left)
+    shift_up_apart(row, (0, left), by)
 }
 
 // Like `shift_down`, in a loop over pieces of `by` values from the first to the last.
@@ -372,37 +374,37 @@ fn shift_down_in_pieces<T>(mut row: Row<T>, by: usize, count: usize) -> Row<T>
 {
     let mut at = 0;
     'down: while by <= count - at {
-        row = shift_down_apart(row, by + at, at, by);
+        row = shift_down_apart(row, (by + at, by), at);
         at += by;
     }
-    shift_down_apart(row, by + at, at, count - at)
+    shift_down_apart(row, (by + at, count - at), at)
 }
 
-// Moves the `count` values from the place `from` on up to the places from `to` on, with one copy of
-// memory. The two ranges do not overlap.
+// Moves the values of a run up to the places from `to` on, with one copy of memory. The two ranges
+// do not overlap.
 #[inline(always)]
 #[tactic(auto, using(crate::proofs::Places::apart_moves))]
-fn shift_up_apart<T>(mut row: Row<T>, from: usize, to: usize, count: usize) -> Row<T>
-    requires { IsRun row.places from count × (from + count ≤ to)
-        × (to + count ≤ length row.places) }
-    ensures { (result.ptr ≡ row.ptr) × (result.places ≡ moved row.places from to count) }
+fn shift_up_apart<T>(mut row: Row<T>, run: (usize, usize), to: usize) -> Row<T>
+    requires { IsRun row.places run.0 run.1 × (run.0 + run.1 ≤ to)
+        × (to + run.1 ≤ length row.places) }
+    ensures { (result.ptr ≡ row.ptr) × (result.places ≡ moved row.places run.0 to run.1) }
 {
     let mut high = row.cut(to);
-    high.take_run_in_one_copy(0, &mut row, from, count);
+    high.take_run_in_one_copy(0, &mut row, run);
     row.join(high);
     row
 }
 
-// Moves the `count` values from the place `from` on down to the places from `to` on, with one copy
-// of memory. The two ranges do not overlap.
+// Moves the values of a run down to the places from `to` on, with one copy of memory. The two
+// ranges do not overlap.
 #[inline(always)]
 #[tactic(auto, using(crate::proofs::Places::apart_moves))]
-fn shift_down_apart<T>(mut row: Row<T>, from: usize, to: usize, count: usize) -> Row<T>
-    requires { IsRun row.places from count × (to + count ≤ from) }
-    ensures { (result.ptr ≡ row.ptr) × (result.places ≡ moved row.places from to count) }
+fn shift_down_apart<T>(mut row: Row<T>, run: (usize, usize), to: usize) -> Row<T>
+    requires { IsRun row.places run.0 run.1 × (to + run.1 ≤ run.0) }
+    ensures { (result.ptr ≡ row.ptr) × (result.places ≡ moved row.places run.0 to run.1) }
 {
-    let mut high = row.cut(from);
-    row.take_run_in_one_copy(to, &mut high, 0, count);
+    let mut high = row.cut(run.0);
+    row.take_run_in_one_copy(to, &mut high, (0, run.1));
     row.join(high);
     row
 }
