@@ -11,6 +11,7 @@ use crate::vec::Vec;
 use crate::vec::retain::count_kept;
 use std::alloc::{Allocator, Global};
 use std::iter::FusedIterator;
+use std::ops::Range;
 use std_alloc::part::SliceRange;
 
 /// An iterator over the elements of a range that a closure removes, which borrows the closure at
@@ -35,32 +36,32 @@ pub struct ExtractBy<'a, T, A: Allocator = Global> {
 }
 
 impl<T, A: Allocator> Vec<T, A> {
-    // Calls `f` for the elements in the places from `front` up to `end` in order, up to the first
-    // for which it returns `true`. Takes that one out, and moves those before it down to the `kept`
-    // ones. Returns how many were moved, the first place that was not tested, and the element.
+    // Calls `f` for the elements in the places `rest` in order, up to the first for which it
+    // returns `true`. Takes that one out, and moves those before it down to the `kept` ones.
+    // Returns how many were moved, the first place that was not tested, and the element.
     fn pick<F: FnMut(&mut T) -> bool>(
         &mut self,
         kept: usize,
-        front: usize,
-        end: usize,
+        rest: Range<usize>,
         f: &mut F,
     ) -> (usize, usize, Option<T>)
-        requires ordered { (kept ≤ front) × (front ≤ end) }
-        requires has_tail { HasTail self.old 0 kept × HasTail self.old front (end - front) }
+        requires ordered { (kept ≤ rest.start) × (rest.start ≤ rest.end) }
+        requires has_tail { HasTail self.old 0 kept
+            × HasTail self.old rest.start (rest.end - rest.start) }
         requires callable { MayCallInOrder (KeepsWhen false (CalledAtMut F.FnMut))
-            (CallableAtMut F.FnMut) f.old (tail_items self.old front (end - front)) }
-        ensures { Picks (CalledAtMut F.FnMut) f.old self.old kept front end result.0 result.1
-            result.2 f.new self.new }
+            (CallableAtMut F.FnMut) f.old (tail_items self.old rest.start (rest.end - rest.start)) }
+        ensures { Picks (CalledAtMut F.FnMut) f.old self.old kept rest.start rest.end result.0
+            result.1 result.2 f.new self.new }
     {
         let len = self.len();
-        let gap = front - kept;
-        let count = end - front;
+        let gap = rest.start - kept;
+        let count = rest.end - rest.start;
         self.close_gap(0, kept);
         let passed = self.pass_over(gap, count, f);
         let (next, item) = if passed < count {
-            (front + passed + 1, Some(self.take_from_tail(gap)))
+            (rest.start + passed + 1, Some(self.take_from_tail(gap)))
         } else {
-            (end, None)
+            (rest.end, None)
         };
         self.set_tail(len);
         (passed, next, item)
@@ -128,7 +129,7 @@ impl<'a, T, A: Allocator> ExtractBy<'a, T, A> {
             (extract_remaining self.old) }
         ensures { Extracts (CalledAtMut F.FnMut) f.old self.old result f.new self.new }
     {
-        let (passed, next, item) = self.vec.pick(self.kept, self.front, self.end, f);
+        let (passed, next, item) = self.vec.pick(self.kept, self.front..self.end, f);
         self.kept += passed;
         self.front = next;
         item
