@@ -94,6 +94,20 @@ module _ {F T : Type 0} (Calls : F → T → T → Bool → F → T → T → Ty
   abbrev pub HasChained : F → List T → ℕ → F → List T → Type 0
   HasChained = Reached 1 (ChainsAlong Calls) (MayDeduplicate Calls Takes)
 
+  -- the closure was called at the border of two parts
+  module _ {f : F} (xs a b : List T) (at : ℕ) (parts : xs ≡ a ++ b) (long : length a ≡ at + 1) (some : at + 1 < length xs) (d e : T) where
+    pub called_between : {answer : Bool} {g : F} {m y : T} → Calls f (get_or b 0 e) (get_or a at d) answer g y m → CallsOnNeighbours Calls f xs at answer g (slice_set a at m ++ slice_set b 0 y)
+    called_between {answer} {g} {m} {y} made = record {
+      first = get_or a at d;
+      second = get_or b 0 e;
+      others = drop 1 b;
+      first_left = m;
+      second_left = y;
+      had = neighbours_are xs a b at parts long some d e;
+      called = made;
+      left = neighbours_left xs a b at parts long some d e m y;
+    }
+
   module _ {f : F} {xs : List T} {i : ℕ} {h : F} {ys : List T} (chained : HasChained f xs i h ys) where
     -- the closure may be called for the next
     pub next_pair : (l x : T) (others : List T) → drop i ys ≡ l ∷ x ∷ others → Takes h x l

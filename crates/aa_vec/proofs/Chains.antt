@@ -1,7 +1,7 @@
 -- Elements after a gap, for each of which a closure is called with the last one kept.
 use Rattle.aa_vec.proofs.Common.{◌≡◌, ℕ, ◌+◌, ◌<◌, ◌≤◌, Bool, true, false, List, [], ◌∷◌, ◌++◌, length, map, drop, Some, refl, sym, ap, ◌∙◌, subst, arith, length-append, drop_at, drop_all, length-map, take-append-drop, HasTail, LeavesInTail, tail_items, MayChainFrom, MayDeduplicate, ChainsUntil, CallsOnLast, ChainsOnTail, Vector, len, ChainsInTail}
 use Rattle.aa_vec.proofs.Gaps.{borrowed-is, refilled, LeavesInTail-view, seen, there, within, IsFront-restored}
-use Rattle.aa_vec.proofs.Tails.{count, first_are, parts, replaced_are}
+use Rattle.aa_vec.proofs.Tails.{count, first_are, parts, replaced_are, replaced_tail}
 
 module _ {T : Type 0} where
   -- a list that is not empty has a last element
@@ -31,6 +31,9 @@ module _ {F T A : Type 0} (Calls : F → T → T → Bool → F → T → T → 
 
       now_are : tail_items w gap n ≡ asked.next_left ∷ others
       now_are = replaced_are v gap n has_tail w (asked.next_left ∷ others) _ (omega (arith, ap len asked.becomes, length-append {A = T}, ap length asked.had.0)) (ap (λ s. s.capacity) asked.becomes) long now_behind
+
+      pub now_tail : HasTail w gap n
+      now_tail = replaced_tail v gap n has_tail w (asked.next_left ∷ others) _ (omega (arith, ap len asked.becomes, length-append {A = T}, ap length asked.had.0)) (ap (λ s. s.capacity) asked.becomes) long now_behind
 
       called : (b : Bool) → answer ≡ b → Calls f asked.next asked.last b g asked.next_left asked.last_left
       called b e = subst (λ a. Calls f asked.next asked.last a g asked.next_left asked.last_left) e asked.called

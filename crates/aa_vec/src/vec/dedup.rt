@@ -5,7 +5,7 @@ ghost use Rattle.std.specs.Fn.{CalledAtPairMut, ComparesKeys};
 ghost use Rattle.aa_raw.specs.Closures.{CallableAtPairMut};
 ghost use Rattle.aa_vec.specs.Tail.{HasTail, tail_items};
 ghost use Rattle.aa_vec.specs.Choosing.{CallableAtKeys, Equals, IsCallableAlong, MayChainFrom, MayDeduplicate, IsPureTest, Deduplicates};
-ghost use Rattle.aa_vec.specs.Until.{CallsOnLast, ChainsInTail, ChainsOnTail, CallsOnNeighbours, ChainsAlong};
+ghost use Rattle.aa_vec.specs.Until.{CallsOnLast, ChainsOnTail, ChainsAlong};
 ghost use Rattle.aa_vec.specs.Vector.{len};
 
 use crate::vec::Vec;
@@ -113,6 +113,7 @@ impl<T, A: Allocator> Vec<T, A> {
     // kept before, up to the first repeat. Returns how many are kept before it. There are at
     // least `LEAST`.
     #[inline(always)]
+    #[tactic(auto, using(crate::proofs::Chains::borrowed))]
     fn chain_on_tail<const LEAST: usize, F: FnMut(&mut T, &mut T) -> bool>(
         &mut self,
         gap: usize,
@@ -134,30 +135,8 @@ impl<T, A: Allocator> Vec<T, A> {
         if LEAST < 2 && count < 2 {
             return 1;
         }
-        1 + self.chain_in_tail(gap, count, same)
-    }
-
-    // Calls `same` for the `count` elements after the gap but the first, in order, each with the
-    // one before it, up to the first repeat. Returns how many of them are kept before it.
-    #[inline(always)]
-    #[tactic(auto, using(crate::proofs::Chains::borrowed))]
-    fn chain_in_tail<F: FnMut(&mut T, &mut T) -> bool>(
-        &mut self,
-        gap: usize,
-        count: usize,
-        same: &mut F,
-    ) -> usize
-        requires some { 1 < count }
-        requires has_tail { HasTail self.old gap count }
-        requires callable { MayDeduplicate (CalledAtPairMut F.FnMut)
-            (CallableAtPairMut F.FnMut) same.old
-            (tail_items self.old gap count) }
-        ensures within { result < count }
-        ensures called { ChainsInTail (CalledAtPairMut F.FnMut) same.old self.old gap count
-            result same.new self.new }
-    {
         let _within = self.block.capacity();
-        distinct_run(self.block.slice_mut(self.len + gap, count), same)
+        1 + distinct_run(self.block.slice_mut(self.len + gap, count), same)
     }
 
     // Calls `same` with the element after the gap and the last item.
@@ -225,35 +204,19 @@ fn distinct_run<T, F: FnMut(&mut T, &mut T) -> bool>(elements: &mut [T], same: &
         result same.new elements.new }
 {
     let last = elements.len() - 1;
-    if call_on_neighbours(same, elements, 0) {
+    let (first, others) = elements.split_at_mut(1);
+    if same(&mut others[0], &mut first[0]) {
         return 0;
     }
     let mut kept = 1;
     'each: while kept < last {
-        if call_on_neighbours(same, elements, kept) {
+        let (before, after) = elements.split_at_mut(kept + 1);
+        if same(&mut after[0], &mut before[kept]) {
             return kept;
         }
         kept += 1;
     }
     last
-}
-
-// Calls `same` with the element after the one at the index, and with that one.
-#[inline(always)]
-#[tactic(auto, using(crate::proofs::Calling::neighbours_are, crate::proofs::Calling::neighbours_left))]
-fn call_on_neighbours<T, F: FnMut(&mut T, &mut T) -> bool>(
-    same: &mut F,
-    elements: &mut [T],
-    at: usize,
-) -> bool
-    requires within { at + 1 < length elements.old }
-    requires callable { (l x : T) (xs : List T) → drop at elements.old ≡ l ∷ x ∷ xs
-        → CallableAtPairMut F.FnMut same.old x l }
-    ensures { CallsOnNeighbours (CalledAtPairMut F.FnMut) same.old elements.old at
-        result same.new elements.new }
-{
-    let (before, after) = elements.split_at_mut(at + 1);
-    same(&mut after[0], &mut before[at])
 }
 
 // Returns whether the keys are equal. `key` is called for `element` first.

@@ -1,5 +1,0 @@
-use Rattle.aa_vec.proofs.Tidy.{IsWhole-restored}
-use Rattle.aa_vec.proofs.vec.Vec.chain_in_tail.Goals as goal
-
-pub invariant_of-self : goal.invariant_of-self
-invariant_of-self g c = let r = rw (← c.self.view_is) at c.requires in IsWhole-restored c.self.inside c.self.invariant c.args.gap c.args.count r.has_tail c.slice_mut.result.now c.distinct_run.new.elements c.slice_mut.ensures.value
