@@ -4,7 +4,7 @@ ghost use Rattle.std.specs.Mem.{type_size};
 ghost use Rattle.std.specs.Iterator.{IsFinite, Drains, Yields, size};
 ghost use Rattle.aa_vec.specs.Vector.{len, HasRoom, LacksRoom, Holds, Writes, run_count};
 ghost use Rattle.aa_vec.specs.Tail.{HasTail};
-ghost use Rattle.aa_vec.specs.Filling.{OpensGap, WidensGap, FillsGap, CanContinue, FillsAndCloses, Collects, PutsRest, LacksRest, Puts};
+ghost use Rattle.aa_vec.specs.Filling.{WidensGap, FillsGap, CanContinue, FillsAndCloses, Collects, PutsRest, LacksRest, Puts};
 
 use crate::vec::Vec;
 use crate::vec::extend::lower_bound::LowerBound;
@@ -39,21 +39,9 @@ impl<T, A: Allocator> Vec<T, A> {
         left
     }
 
-    // Moves the `count` elements of the tail up by `gap` places.
-    #[tactic(auto, using(aa_raw::proofs::Calls::in_runs, crate::proofs::Gaps::spare))]
-    fn open_gap(&mut self, gap: usize, count: usize)
-        requires has_tail { HasTail self.old 0 count }
-        requires room { len self.old + gap + count ≤ self.old.capacity }
-        ensures { OpensGap self.old gap count self.new }
-    {
-        let len = self.len;
-        self.block.prove_capacity_bounds();
-        self.block.move_run(len, len + gap, count);
-    }
-
     // Reserves capacity for `gap` more elements, and moves the last `count` elements up by `gap`
     // places.
-    #[tactic(auto, using(crate::proofs::Filling::gaps, crate::proofs::Becoming::became))]
+    #[tactic(auto, using(aa_raw::proofs::Calls::in_runs, crate::proofs::Gaps::spare, crate::proofs::Filling::gaps, crate::proofs::Becoming::became))]
     fn widen(&mut self, gap: usize, count: usize) -> Result<(), TryReserveError>
         requires { count ≤ len self.old }
         ensures fits { HasRoom self.old gap → IsOk result }
@@ -64,7 +52,8 @@ impl<T, A: Allocator> Vec<T, A> {
         self.try_reserve(gap)?;
         let at = self.len() - count;
         self.set_tail(at);
-        self.open_gap(gap, count);
+        self.block.prove_capacity_bounds();
+        self.block.move_run(at, at + gap, count);
         Ok(())
     }
 
