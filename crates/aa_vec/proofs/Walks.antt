@@ -5,17 +5,18 @@ pub use mir.MapTy.{inst_fn}
 pub use mir.Val.{Val, vunit}
 pub use base.Fml.{ftrue}
 pub use types.Kit.{‵, raw, ◌⊛◌, some, later, ◌∵◌, !, qed, move, keep, use0, use1, group, split, join, fsplit, fjoin, feq_l, feq_i, pick, await, suffices, done}
-pub use types.Part.{whole, sub}
+pub use types.Part.{whole, sub, agg}
 pub use types.Run.{enter, stop, fld, of_opd, addr, unit_lit, and_then, no_more, returns}
 pub use types.ByLocal.{alloc_all, pass_all, free_all, look_at, get, get_in, through, sets, lands_as}
 pub use contract.Running.{tables}
 pub use denote.Builtin.{unit}
 pub use denote.Exit.{yes}
+pub use denote.Laws.{Is}
 pub use denote.Param.{bounded}
 pub use denote.RattleType.{owns}
-pub use denote.Steps.{nothing, heard, only}
+pub use denote.Steps.{nothing, heard, only, owned}
 pub use denote.Struct.Declared.{fields}
-pub use denote.Struct.Laws.{vals, tells, lawful}
+pub use denote.Struct.Laws.{vals, tells, lawful, owed}
 pub use denote.Triple.Call.{calls_at}
 pub use denote.Triple.Clauses.{Ended, lasts}
 pub use denote.Triple.Entry.{alive}

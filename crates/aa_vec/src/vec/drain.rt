@@ -7,6 +7,7 @@ ghost use Rattle.aa_vec.specs.Ranges.{IsRangeOf};
 ghost use Rattle.aa_vec.specs.Tail.{HasTail};
 
 use crate::vec::Vec;
+use crate::vec::tail::moves::Gap;
 use std::alloc::{Allocator, Global};
 use std::convert::AsSlice;
 use std::fmt;
@@ -104,7 +105,12 @@ impl<'a, T, A: Allocator> Drain<'a, T, A> {
             end,
             total,
         } = self;
-        vec.close_gaps(front, back, end, total);
+        vec.close_gaps(Gap {
+            front,
+            back,
+            end,
+            total,
+        });
     }
 }
 
@@ -217,6 +223,11 @@ impl<'a, T: Drop, A: Allocator> Drop for Drain<'a, T, A> {
             end,
             total,
         } = self;
-        vec.drop_and_close(front, back, end, total);
+        vec.drop_and_close(Gap {
+            front,
+            back,
+            end,
+            total,
+        });
     }
 }

@@ -9,6 +9,7 @@ ghost use Rattle.aa_vec.specs.Ranges.{IsRangeOf};
 
 use crate::vec::Vec;
 use crate::vec::retain::count_kept;
+use crate::vec::tail::moves::Gap;
 use std::alloc::{Allocator, Global};
 use std::iter::FusedIterator;
 use std::ops::Range;
@@ -158,7 +159,12 @@ impl<'a, T, A: Allocator> Drop for ExtractBy<'a, T, A> {
             end,
             total,
         } = self;
-        vec.close_kept(kept, front, end, total);
+        vec.close_kept(Gap {
+            front: kept,
+            back: front,
+            end,
+            total,
+        });
     }
 }
 

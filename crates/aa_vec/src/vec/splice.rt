@@ -11,6 +11,7 @@ ghost use Rattle.aa_vec.specs.SpliceItems.{Replaced, gapped};
 use crate::vec::Vec;
 use crate::vec::extend::items::Hinted;
 use crate::vec::extend::lower_bound::{ByHint, ByLower, LowerBound};
+use crate::vec::tail::moves::Gap;
 use aa_raw::collections::TryReserveError;
 use std::alloc::{Allocator, Global};
 use std::fmt;
@@ -153,36 +154,42 @@ where
             total,
             iter,
         } = self;
-        Self::finish_parts::<W>(vec, front, back, end, total, iter)
+        Self::finish_parts::<W>(
+            vec,
+            Gap {
+                front,
+                back,
+                end,
+                total,
+            },
+            iter,
+        )
     }
 
     // The same, from the parts of a splice: drops what was not taken of the range, and replaces it
     // with the items of `iter`.
     fn finish_parts<W: LowerBound<I>>(
         vec: &'a mut Vec<I::Item, A>,
-        front: usize,
-        back: usize,
-        end: usize,
-        total: usize,
+        gap: Gap,
         iter: I,
     ) -> Result<(), TryReserveError>
-        requires ordered { (front ≤ back) × (back ≤ end) × (end ≤ total) }
-        requires has_tail { HasTail vec.old front (back - front)
-            × HasTail vec.old end (total - end) }
+        requires ordered { (gap.front ≤ gap.back) × (gap.back ≤ gap.end) × (gap.end ≤ gap.total) }
+        requires has_tail { HasTail vec.old gap.front (gap.back - gap.front)
+            × HasTail vec.old gap.end (gap.total - gap.end) }
         requires callable { I.can_next iter }
         requires finite { IsFinite (I.remaining iter) }
         ensures { Replaced I.Iterator W.lower_is (¬ (A.is_infallible vec.old.alloc))
             (type_size I.Item.row) iter
-            (gapped vec.old vec.old.items end (tail_items vec.old end (total - end)))
+            (gapped vec.old vec.old.items gap.end (tail_items vec.old gap.end (gap.total - gap.end)))
             result vec.new }
     {
         let mut items = iter;
-        let count = total - end;
-        vec.drop_from_tail(front, back - front);
+        let count = gap.total - gap.end;
+        vec.drop_from_tail(gap.front, gap.back - gap.front);
         if count == 0 {
             return vec.extend_with_bound::<W, I>(&mut items);
         }
-        if vec.fill_and_close(end, count, &mut items) != 0 {
+        if vec.fill_and_close(gap.end, count, &mut items) != 0 {
             return Ok(());
         }
         let bound = W::lower_bound(&items);

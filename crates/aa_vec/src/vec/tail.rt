@@ -9,7 +9,7 @@ use aa_raw::raw_vec::RawVec;
 use std::alloc::Allocator;
 
 pub(crate) mod gap;
-mod moves;
+pub(crate) mod moves;
 pub(crate) mod steps;
 
 // Forgets the values in the places of `block` from the index `from` on, which are no more than were

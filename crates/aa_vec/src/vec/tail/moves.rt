@@ -7,6 +7,16 @@ ghost use Rattle.aa_vec.specs.Tail.{HasTail, SetsTail, ClosesGap, DropsTail, Dro
 use crate::vec::Vec;
 use std::alloc::Allocator;
 
+// Places after the last item, in this order, by which a guard hands on where the elements are that
+// it keeps, drops or moves down.
+#[derive(Clone, Copy)]
+pub(crate) struct Gap {
+    pub(crate) front: usize,
+    pub(crate) back: usize,
+    pub(crate) end: usize,
+    pub(crate) total: usize,
+}
+
 impl<T, A: Allocator> Vec<T, A> {
     // Sets the elements from the index `at` on apart as the tail. Returns their number.
     #[tactic(auto, using(crate::proofs::Gaps::set_apart, crate::proofs::Becoming::becomes))]
@@ -94,43 +104,48 @@ impl<T, A: Allocator> Vec<T, A> {
     // Drops the elements of the tail from place `front` up to `back`, and moves those from `end` up
     // to `total` down.
     #[tactic(auto, using(crate::proofs::TailLemmas::closing))]
-    pub(crate) fn drop_and_close(&mut self, front: usize, back: usize, end: usize, total: usize)
+    pub(crate) fn drop_and_close(&mut self, gap: Gap)
     where
         T: Drop,
-        requires ordered { (front ≤ back) × (back ≤ end) × (end ≤ total) }
-        requires has_tail { HasTail self.old front (back - front)
-            × HasTail self.old end (total - end) }
-        ensures { DropsAndCloses self.old (back - front) end (total - end) self.new }
+        requires ordered { (gap.front ≤ gap.back) × (gap.back ≤ gap.end) × (gap.end ≤ gap.total) }
+        requires has_tail { HasTail self.old gap.front (gap.back - gap.front)
+            × HasTail self.old gap.end (gap.total - gap.end) }
+        ensures { DropsAndCloses self.old (gap.back - gap.front) gap.end
+            (gap.total - gap.end) self.new }
     {
-        self.drop_from_tail(front, back - front);
-        self.close_gap(end, total - end);
+        self.drop_from_tail(gap.front, gap.back - gap.front);
+        self.close_gap(gap.end, gap.total - gap.end);
     }
 
     // Moves the elements of the tail from place `front` up to `back` down, and then those from
     // `end` up to `total`.
     #[tactic(auto, using(crate::proofs::TailLemmas::closing))]
-    pub(crate) fn close_gaps(&mut self, front: usize, back: usize, end: usize, total: usize)
-        requires ordered { (front ≤ back) × (back ≤ end) × (end ≤ total) }
-        requires has_tail { HasTail self.old front (back - front)
-            × HasTail self.old end (total - end) }
-        ensures { ClosesTwoGaps self.old front (back - front) end (total - end) self.new }
+    pub(crate) fn close_gaps(&mut self, gap: Gap)
+        requires ordered { (gap.front ≤ gap.back) × (gap.back ≤ gap.end) × (gap.end ≤ gap.total) }
+        requires has_tail { HasTail self.old gap.front (gap.back - gap.front)
+            × HasTail self.old gap.end (gap.total - gap.end) }
+        ensures { ClosesTwoGaps self.old gap.front (gap.back - gap.front) gap.end
+            (gap.total - gap.end) self.new }
     {
-        let kept = back - front;
-        self.close_gap(front, kept);
-        self.close_gap(end - kept, total - end);
+        let kept = gap.back - gap.front;
+        self.close_gap(gap.front, kept);
+        self.close_gap(gap.end - kept, gap.total - gap.end);
     }
 
-    // Moves the first `kept` elements of the tail down, and then those from place `front` up to
+    // Moves the elements of the tail up to place `front` down, and then those from `back` up to
     // `total`.
     #[tactic(auto, using(crate::proofs::TailLemmas::closing))]
-    pub(crate) fn close_kept(&mut self, kept: usize, front: usize, end: usize, total: usize)
-        requires ordered { (kept ≤ front) × (front ≤ end) × (end ≤ total) }
-        requires has_tail { HasTail self.old 0 kept × HasTail self.old front (total - front) }
-        ensures { ClosesTwoGaps self.old 0 kept front (total - front) self.new }
+    pub(crate) fn close_kept(&mut self, gap: Gap)
+        requires ordered { (gap.front ≤ gap.back) × (gap.back ≤ gap.end) × (gap.end ≤ gap.total) }
+        requires has_tail { HasTail self.old 0 gap.front
+            × HasTail self.old gap.back (gap.total - gap.back) }
+        ensures { ClosesTwoGaps self.old 0 gap.front gap.back (gap.total - gap.back) self.new }
     {
-        // Only the contract mentions the end of the range: a function has no parameter for
-        // contracts alone.
-        let _range_end = end;
-        self.close_gaps(0, kept, front, total);
+        self.close_gaps(Gap {
+            front: 0,
+            back: gap.front,
+            end: gap.back,
+            total: gap.total,
+        });
     }
 }
