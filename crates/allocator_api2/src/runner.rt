@@ -7,6 +7,8 @@ ghost use Rattle.allocator_api2.specs.Commands.{PerformsStep};
 ghost use Rattle.allocator_api2.specs.Machine.{state_of, calls_of, IsPossible};
 ghost use Rattle.allocator_api2.specs.Run.{RunsWithin, MayCall, IsCallableOnRuns};
 
+use crate::runner::draining::Taking;
+use crate::runner::extracting::Part;
 use aa_raw::collections::TryReserveErrorKind;
 use aa_vec::vec::Vec;
 use std::alloc::{Allocator, Global};
@@ -232,15 +234,16 @@ where
             front,
             back,
             keep,
-        } => draining::drain(main, side, start, end, front, back, keep),
+        } => draining::drain(main, side, start..end, Taking { front, back, keep }),
         Command::ExtractIf { start, end, take } => {
-            extracting::extract(main, side, start, end, take, keep)
+            let range = start..end;
+            extracting::extract(main, side, Part { range, most: take }, keep)
         }
         Command::Splice {
             start,
             end,
             items,
             hint,
-        } => commands::splice(main, start, end, items, hint),
+        } => commands::splice(main, start..end, items, hint),
     }
 }

@@ -14,6 +14,7 @@ ghost use Rattle.allocator_api2.specs.declared.runner.Reply.{Reply};
 use crate::runner::Reply;
 use aa_vec::vec::{Items, Vec};
 use std::alloc::Allocator;
+use std::ops::Range;
 
 #[tactic(auto, using(aa_vec::proofs::Becoming::became, crate::proofs::ByKind::failed))]
 pub(crate) fn push<T, A: Allocator>(main: &mut Vec<T, A>, value: T) -> Reply<T>
@@ -240,20 +241,19 @@ where
 
 pub(crate) fn splice<T: Drop, A: Allocator + Clone + Drop>(
     main: &mut Vec<T, A>,
-    start: usize,
-    end: usize,
+    range: Range<usize>,
     items: Vec<T, A>,
     hint: Option<usize>,
 ) -> Reply<T>
     ensures { let sure = A.is_infallible main.old.alloc in
         (side : Vector T A) → Performs (type_size T.row) sure main.old side
-        (Splice start end items hint) result main.new side }
+        (Splice range.start range.end items hint) result main.new side }
 {
-    if start > end || end > main.len() {
+    if range.start > range.end || range.end > main.len() {
         return Reply::Range;
     }
-    let range = main.splice(start..end, Items::new(items, hint));
-    match range.finish_hinted() {
+    let splice = main.splice(range, Items::new(items, hint));
+    match splice.finish_hinted() {
         Ok(()) => Reply::Done,
         Err(error) => Reply::Refused(error.kind()),
     }

@@ -10,52 +10,63 @@ ghost use Rattle.allocator_api2.specs.declared.runner.Command.{Command};
 use crate::runner::{Reply, push_within};
 use aa_vec::vec::{Drain, Vec};
 use std::alloc::Allocator;
+use std::ops::Range;
+
+// Which items of a range are taken, and what becomes of the others.
+#[derive(Drop)]
+pub(crate) struct Taking {
+    // How many items are taken from the front.
+    pub(crate) front: usize,
+    // How many of the others are taken from the back.
+    pub(crate) back: usize,
+    // Whether the remaining items are kept, or else dropped.
+    pub(crate) keep: bool,
+}
 
 // Tests the range, reserves capacity in side for the requested elements, and then moves them there.
 #[tactic(auto, using(aa_vec::proofs::Becoming::became, crate::proofs::ByKind::failed))]
 pub(crate) fn drain<T: Drop, A: Allocator>(
     main: &mut Vec<T, A>,
     side: &mut Vec<T, A>,
-    start: usize,
-    end: usize,
-    front: usize,
-    back: usize,
-    keep: bool,
+    range: Range<usize>,
+    taking: Taking,
 ) -> Reply<T>
     ensures { Performs (type_size T.row) ⊤ main.old side.old
-        (Command.Drain start end front back keep) result main.new side.new }
+        (Command.Drain range.start range.end taking.front taking.back taking.keep)
+        result main.new side.new }
 {
-    if start > end || end > main.len() {
+    if range.start > range.end || range.end > main.len() {
         return Reply::Range;
     }
-    let first = front.min(end - start);
-    let last = back.min(end - start - first);
-    if let Err(error) = side.try_reserve(first + last) {
+    let count = range.end - range.start;
+    let front = taking.front.min(count);
+    let back = taking.back.min(count - front);
+    if let Err(error) = side.try_reserve(front + back) {
         return Reply::Refused(error.kind());
     }
-    drain_into(main, side, start, end, first, last, keep);
+    let keep = taking.keep;
+    drain_into(main, side, range, Taking { front, back, keep });
     Reply::Done
 }
 
-// Takes `first` items of a range from its front and then `last` from its back, appends them to
-// side, and keeps or drops the others.
+// Takes these items of a range, those from the front first, and appends them to side, which has
+// spare capacity for them.
 fn drain_into<T: Drop, A: Allocator>(
     main: &mut Vec<T, A>,
     side: &mut Vec<T, A>,
-    start: usize,
-    end: usize,
-    first: usize,
-    last: usize,
-    keep: bool,
+    range: Range<usize>,
+    taking: Taking,
 )
-    requires range { (start ≤ end) × (end ≤ len main.old) × (first + last ≤ end - start) }
-    requires room { HasRoom side.old (first + last) }
-    ensures { Drained main.old side.old (ends_at start end first last) keep main.new side.new }
+    requires range { (range.start ≤ range.end) × (range.end ≤ len main.old)
+        × (taking.front + taking.back ≤ range.end - range.start) }
+    requires room { HasRoom side.old (taking.front + taking.back) }
+    ensures { Drained main.old side.old (ends_at range.start range.end taking.front taking.back)
+        taking.keep main.new side.new }
 {
-    let mut items = main.drain(start..end);
-    take_front(&mut items, side, first);
-    take_back(&mut items, side, last);
-    if keep {
+    let mut items = main.drain(range);
+    take_front(&mut items, side, taking.front);
+    take_back(&mut items, side, taking.back);
+    if taking.keep {
         items.keep_rest();
     }
 }

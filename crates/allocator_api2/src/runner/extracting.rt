@@ -11,6 +11,14 @@ ghost use Rattle.allocator_api2.specs.RangeCommands.{Chosen, TakesUpTo};
 use crate::runner::{Reply, push_within};
 use aa_vec::vec::{ExtractBy, Vec};
 use std::alloc::Allocator;
+use std::ops::Range;
+
+// A range of main from which elements are removed, and the greatest number of them.
+#[derive(Drop)]
+pub(crate) struct Part {
+    pub(crate) range: Range<usize>,
+    pub(crate) most: usize,
+}
 
 // Tests the range, reserves capacity in side for the most elements that may be taken, and then
 // moves those there that are.
@@ -18,48 +26,44 @@ use std::alloc::Allocator;
 pub(crate) fn extract<T: Drop, A: Allocator, K: FnMut(&mut T) -> bool>(
     main: &mut Vec<T, A>,
     side: &mut Vec<T, A>,
-    start: usize,
-    end: usize,
-    take: usize,
+    part: Part,
     keep: &mut K,
 ) -> Reply<T>
     requires { IsCallableInOrder (CalledAtMut K.FnMut) (CallableAtMut K.FnMut)
-        keep.old (slice_range main.old.items start end) }
+        keep.old (slice_range main.old.items part.range.start part.range.end) }
     ensures { TakesChosen (type_size T.row) (CalledAtMut K.FnMut)
-        (state_with_keep main.old side.old keep.old) start end take result
-        (state_with_keep main.new side.new keep.new) }
+        (state_with_keep main.old side.old keep.old) part.range.start part.range.end part.most
+        result (state_with_keep main.new side.new keep.new) }
 {
-    if start > end || end > main.len() {
+    let Part { range, most } = part;
+    if range.start > range.end || range.end > main.len() {
         return Reply::Range;
     }
-    let most = take.min(end - start);
+    let most = most.min(range.end - range.start);
     if let Err(error) = side.try_reserve(most) {
         return Reply::Refused(error.kind());
     }
-    extract_into(main, side, start, end, most, keep);
+    extract_into(main, side, Part { range, most }, keep);
     Reply::Done
 }
 
-// Removes at most `most` elements from a range, and appends them to a vector that has spare
-// capacity for them.
+// Removes elements from a part, and appends them to a vector that has spare capacity for them.
 fn extract_into<T: Drop, A: Allocator, K: FnMut(&mut T) -> bool>(
     main: &mut Vec<T, A>,
     side: &mut Vec<T, A>,
-    start: usize,
-    end: usize,
-    most: usize,
+    part: Part,
     keep: &mut K,
 )
-    requires range { (start ≤ end) × (end ≤ len main.old) }
-    requires room { HasRoom side.old most }
+    requires range { (part.range.start ≤ part.range.end) × (part.range.end ≤ len main.old) }
+    requires room { HasRoom side.old part.most }
     requires callable { IsCallableInOrder (CalledAtMut K.FnMut) (CallableAtMut K.FnMut)
-        keep.old (slice_range main.old.items start end) }
+        keep.old (slice_range main.old.items part.range.start part.range.end) }
     ensures { Chosen (CalledAtMut K.FnMut)
-        (state_with_keep main.old side.old keep.old) start end most
+        (state_with_keep main.old side.old keep.old) part.range.start part.range.end part.most
         (state_with_keep main.new side.new keep.new) }
 {
-    let mut range = main.extract_by(start..end);
-    take_chosen(&mut range, side, most, keep);
+    let mut items = main.extract_by(part.range);
+    take_chosen(&mut items, side, part.most, keep);
 }
 
 // Takes at most `most` elements from an extracting range, and appends them to side.
