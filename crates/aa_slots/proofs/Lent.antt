@@ -48,12 +48,14 @@ use Rattle.aa_raw.specs.Block.{with_places}
 use Rattle.aa_raw.specs.Entries.{Entry, values_of, with_values}
 use Rattle.aa_raw.specs.EntriesLends as block_lends
 use Rattle.aa_raw.specs.contracts.raw_vec.RawVec as block
+use Rattle.aa_raw.proofs.counter.Counter.TheLaws as counter_laws
+use Rattle.aa_raw.specs.contracts.counter.Counter as counter
 use Rattle.aa_raw.proofs.Rights.{Back, both_rights, closes_late}
 use Rattle.aa_slots.proofs.Values.{read, same, stays-lent}
 use Rattle.aa_slots.proofs.slots.Chain.TheLaws as chain_laws
 use Rattle.aa_slots.proofs.slots.Slot.TheLaws as slot_laws
 use Rattle.aa_slots.proofs.map.SlotMap.TheLaws as map_laws
-use Rattle.aa_slots.specs.Inside.{capacity_of, seen, states_of}
+use Rattle.aa_slots.specs.Inside.{blocks_of, capacity_of, seen, states_of}
 use Rattle.aa_slots.specs.IterMutLends.{with_values_of}
 use Rattle.aa_slots.specs.contracts.map.SlotMap as map
 use Rattle.aa_slots.specs.contracts.map.SlotMap.TheInside as inside
@@ -94,7 +96,7 @@ module _ (Y Z X : RattleType) (g : alloc.Ghosts Z.Denot) where
   of_row R = record { row = R; ty = lone R.mir }
 
   abbrev rest_ms : List Member
-  rest_ms = of_row chain.the_row ∷ of_row u64 ∷ of_row (marker.the_row C) ∷ []
+  rest_ms = of_row chain.the_row ∷ of_row u64 ∷ of_row counter.the_row ∷ of_row (marker.the_row C) ∷ []
 
   abbrev pub ms : List Member
   ms = of_row Bk ∷ of_row Ix ∷ rest_ms
@@ -111,14 +113,14 @@ module _ (Y Z X : RattleType) (g : alloc.Ghosts Z.Denot) where
 
   -- the map `d` with the values of `u`
   abbrev pub following : D → D → D
-  following d u = record { slots = with_values_of d.slots u.slots; capacity = d.capacity; issued = d.issued }
+  following d u = record { slots = with_values_of d.slots u.slots; capacity = d.capacity; resizes = d.resizes; issued = d.issued }
 
   -- a map that has the slots of `d`, with the values of its own value
   abbrev pub Followed : D → SemTy
   Followed d = record { rep = D; coded = Mp.coded; size = 0; own_at = λ u bl o. (mem Mp).own_at (following d u) bl o }
 
   itself : (d : D) → following d d ≡ d
-  itself d = ap (λ ss. record { slots = ss; capacity = d.capacity; issued = d.issued }) (same d.slots)
+  itself d = ap (λ ss. record { slots = ss; capacity = d.capacity; resizes = d.resizes; issued = d.issued }) (same d.slots)
 
   module _ (LY : Laws Y) (LZ : Laws Z) (LX : Laws X) {M : Type 1} {𝓤 : Ura M} (𝓛 : Logic 𝓤) (rb ro : ℕ) where
     open 𝓛 use {A as tokens}
@@ -131,7 +133,7 @@ module _ (Y Z X : RattleType) (g : alloc.Ghosts Z.Denot) where
       Index = part_at Ix full_share a.slots rb (ro + index_at)
 
       abbrev pub Others : Fml
-      Others = parts_at full_share rest_ms (index_at + size (lone Ix.mir)) (a.free, (a.issued, (a.kind, tt))) rb ro
+      Others = parts_at full_share rest_ms (index_at + size (lone Ix.mir)) (a.free, (a.issued, (a.moves, (a.kind, tt)))) rb ro
 
       abbrev pub Gaps : SProp 𝓤
       Gaps = PartsBack 𝓛 full_share [] ms rb ro
@@ -140,9 +142,9 @@ module _ (Y Z X : RattleType) (g : alloc.Ghosts Z.Denot) where
       unfolding part_of
       takes_apart = field_out 𝓛 full_share [] ms (
         (block_laws.the_row_laws (Entry unit V) A g (tuple_laws (unit ∷ V ∷ []) (unit_ok, (param_laws 0 Y LY, tt))) (param_laws 1 Z LZ)).lawful 𝓛,
-        (the_index_laws.lawful 𝓛, (chain_laws.the_row_laws.lawful 𝓛, (uint_Lawful 𝓛 w64, ((marker_laws.the_row_laws C (param_laws 2 X LX)).lawful 𝓛, tt)))),
+        (the_index_laws.lawful 𝓛, (chain_laws.the_row_laws.lawful 𝓛, (uint_Lawful 𝓛 w64, (counter_laws.the_row_laws.lawful 𝓛, ((marker_laws.the_row_laws C (param_laws 2 X LX)).lawful 𝓛, tt))))),
       )
-          (a.values, (a.slots, (a.free, (a.issued, (a.kind, tt))))) rb ro 0
+          (a.values, (a.slots, (a.free, (a.issued, (a.moves, (a.kind, tt)))))) rb ro 0
 
       -- the map with these values in its places
       module _ (d : D) (viewed : Viewed d a) where
@@ -150,11 +152,11 @@ module _ (Y Z X : RattleType) (g : alloc.Ghosts Z.Denot) where
         written ws = with_places a.values (with_values a.values.places ws)
 
         abbrev pub next : List Y.Denot → D
-        next ws = record { slots = seen (states_of a.slots) (with_values a.values.places ws); capacity = capacity_of a.slots; issued = a.issued }
+        next ws = record { slots = seen (states_of a.slots) (with_values a.values.places ws); capacity = capacity_of a.slots; resizes = blocks_of a.slots; issued = a.issued }
 
         fixed : (ws : List Y.Denot) → following d (next ws) ≡ next ws
-        fixed ws = ap (λ (z : D). record { slots = with_values_of z.slots (next ws).slots; capacity = z.capacity; issued = z.issued }) (sym viewed.0)
-            ∙ ap (λ ss. record { slots = ss; capacity = capacity_of a.slots; issued = a.issued }) (read (states_of a.slots) a.values.places ws)
+        fixed ws = ap (λ (z : D). record { slots = with_values_of z.slots (next ws).slots; capacity = z.capacity; resizes = z.resizes; issued = z.issued }) (sym viewed.0)
+            ∙ ap (λ ss. record { slots = ss; capacity = capacity_of a.slots; resizes = blocks_of a.slots; issued = a.issued }) (read (states_of a.slots) a.values.places ws)
 
         abbrev pub Whole : SemTy
         Whole = Followed d
@@ -162,11 +164,11 @@ module _ (Y Z X : RattleType) (g : alloc.Ghosts Z.Denot) where
         returns_whole : (ws : List Y.Denot) → ent 𝓤 (sep 𝓤 (sem 𝓛 (part_at Bk full_share (written ws) rb (ro + block_at))) (sep 𝓤 (sem 𝓛 (fsep Index Others)) Gaps)) (sem 𝓛 (Whole.own_at (next ws) rb ro))
         unfolding part_of
         returns_whole ws =
-            let n : In.Denot = record { values = written ws; slots = a.slots; free = a.free; issued = a.issued; kind = a.kind } in
+            let n : In.Denot = record { values = written ws; slots = a.slots; free = a.free; issued = a.issued; moves = a.moves; kind = a.kind } in
             qed 𝓛 (‵ (part_at Bk full_share (written ws) rb (ro + block_at)) ∷ ‵ (fsep Index Others) ∷ raw Gaps ∷ []) ∵
-            use3 𝓛 (‵ (part_at In full_share n rb ro)) (field_back 𝓛 full_share [] ms (written ws, (a.slots, (a.free, (a.issued, (a.kind, tt))))) rb ro 0) $
+            use3 𝓛 (‵ (part_at In full_share n rb ro)) (field_back 𝓛 full_share [] ms (written ws, (a.slots, (a.free, (a.issued, (a.moves, (a.kind, tt)))))) rb ro 0) $
             use1 𝓛 (‵ ((mem Mp).own_at (next ws) rb ro)) (Plain-in Mp In (map_laws.the_opens V A C g) 𝓛 full_share (next ws) n
-            (view_made In D Mp.coded (view Y.Denot Z.Denot X.Denot g) (invariant Y.Denot Z.Denot X.Denot g) 𝓛 (next ws) n (refl, stays-lent viewed.1 ws)) rb ro) $
+            (view_made In D Mp.coded (view Y.Denot Z.Denot X.Denot g) (invariant Y.Denot Z.Denot X.Denot g) 𝓛 (next ws) n (refl, (stays-lent viewed.1.0 ws, record { moved = viewed.1.1.moved; once = viewed.1.1.once }))) rb ro) $
             rewrite ! 0 (λ (u : D). ‵ ((mem Mp).own_at u rb ro)) (sym (fixed ws)) refl $ done !
 
         module _ (κ : Lft) (δ tie₀ tie : GName) (u : Gv) where

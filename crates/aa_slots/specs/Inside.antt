@@ -1,6 +1,7 @@
 -- The invariant of the fields of a slot map, and their view.
-use Rattle.std.specs.Prelude.{◌≡◌, ℕ, ◌+◌, ◌-◌, ◌/◌, ◌%◌, ◌^◌, ◌<◌, ◌≤◌, ◌==◌, Bool, true, false, ⊤, List, [], ◌∷◌, length, take, drop, Option, None, Some, nat_eq, slice_get, slice_index_or, get_or, if◌then◌else◌}
+use Rattle.std.specs.Prelude.{◌≡◌, ℕ, ◌+◌, ◌-◌, ◌/◌, ◌%◌, ◌^◌, ◌<◌, ◌≤◌, ◌==◌, Bool, true, false, ⊤, List, [], ◌∷◌, length, take, drop, Option, None, Some, min, nat_eq, slice_get, slice_index_or, get_or, if◌then◌else◌}
 use Rattle.std.specs.List.{IsDistinct}
+use Rattle.allocator_api2.specs.Block.{Block}
 use Rattle.allocator_api2.specs.Places.{IsFilled}
 use Rattle.allocator_api2.specs.Vector.{Vector}
 use Rattle.aa_slots.specs.declared.key.KeyData.{KeyData}
@@ -46,6 +47,11 @@ states_of (Some v) = v.items
 abbrev pub capacity_of : {A : Type 0} → Option (Vector State A) → ℕ
 capacity_of None = 0
 capacity_of (Some v) = v.capacity
+
+-- the number of blocks that were allocated for the slots of a map
+abbrev pub blocks_of : {A : Type 0} → Option (Vector State A) → ℕ
+blocks_of None = 0
+blocks_of (Some v) = v.grown.blocks
 
 -- the slots from index `from` on and before `end` are free
 abbrev pub AreFree : List State → (from end : ℕ) → Type 0
@@ -110,11 +116,23 @@ module _ {T : Type 0} where
     pub within : length ss ≤ capacity
     pub room : capacity ≤ length cs
 
+  -- the values moved to a new block `moves` times, each time with the slots, and their block is the
+  -- only one that was allocated for this capacity
+  pub record MoveTogether {A : Type 0} (slots : Option (Vector State A)) (values : Block (⊤ × T) A)
+      (moves : ℕ) : Type 0 where
+    pub moved : moves ≡ blocks_of slots
+    pub once : values.grown.blocks ≤ min 1 (capacity_of slots)
+
   -- the view of slots and places, after `issued` keys were issued
   abbrev pub view_of : {A : Type 0} → Option (Vector State A) → List (Option (⊤ × T))
       → (issued : ℕ) → Slotted T
   view_of slots cs issued =
-      record { slots = seen (states_of slots) cs; capacity = capacity_of slots; issued = issued }
+      record {
+        slots = seen (states_of slots) cs;
+        capacity = capacity_of slots;
+        resizes = blocks_of slots;
+        issued = issued;
+      }
 
   -- the keys and values in the slots from index `from` on and before `end`
   abbrev pub rest_of : List (Option (ℕ × T)) → (from end : ℕ) → List (KeyData × T)

@@ -29,5 +29,6 @@ lends_values T A K g m n =
     (λ u. record {
       slots = with_values_of m.now.slots u.slots;
       capacity = m.now.capacity;
+      resizes = m.now.resizes;
       issued = m.now.issued;
     })

@@ -1,19 +1,30 @@
 -- The view of a slot map.
-use Rattle.std.specs.Prelude.{◌≡◌, ℕ, zero, suc, ◌+◌, ◌-◌, ◌≤◌, ◌&&◌, Bool, max, List, [], ◌∷◌, length, count_by, is_some, Option, None, Some, nat_eq, nat_le, if◌then◌else◌, slice_index_or, slice_set}
+use Rattle.std.specs.Prelude.{◌≡◌, ℕ, zero, suc, ◌+◌, ◌-◌, ◌≤◌, ◌&&◌, ◌==◌, Bool, max, List, [], ◌∷◌, length, count_by, is_some, Option, None, Some, nat_eq, nat_le, if◌then◌else◌, slice_index_or, slice_set}
 use Rattle.std.specs.Cmp.Lexicographic.{pointwise}
 use Rattle.std.specs.List.{AllZip}
 use Rattle.aa_slots.specs.declared.key.KeyData.{KeyData}
 
 -- the view of a slot map: its slots, each free or with the serial of a key and its value; the
--- number of values that it can hold without another allocation; and the number of keys issued
+-- number of values that it can hold without another allocation; the number of times that it moved
+-- to new blocks; and the number of keys issued
 pub record Slotted (T : Type 0) : Type 0 where
   pub slots : List (Option (ℕ × T))
   pub capacity : ℕ
+  pub resizes : ℕ  -- each time to two: of the slots and of the values
   pub issued : ℕ
 
 -- the capacity of a map of `c` slots, all full, after it has grown
 abbrev pub grown : (c : ℕ) → ℕ
 grown c = c + max c 4
+
+-- the number of resizes of a new map with the capacity `c`
+abbrev pub fresh_resizes : (c : ℕ) → ℕ
+fresh_resizes c = if c == 0 then 0 else 1
+
+-- the number of resizes of a map with `n` slots and the capacity `c` after it shrank to these slots:
+-- the old number `r` if `c` is `n`, else also that of a new map
+abbrev pub shrunk_resizes : (r c n : ℕ) → ℕ
+shrunk_resizes r c n = if c == n then r else r + fresh_resizes n
 
 module _ {X : Type 0} where
   -- the list with `x` at index `i`, which is at most its length
@@ -54,13 +65,23 @@ module _ {T : Type 0} where
   abbrev pub HasRoom : Slotted T → (k : ℕ) → Type 0
   HasRoom m k = k ≤ m.capacity - count m.slots
 
-  -- the map `m` after it reserved `k` more values: exactly these, if its capacity was insufficient
+  -- the map `m` after it reserved `k` more values: exactly these, if its capacity was insufficient,
+  -- and then in new blocks
   abbrev pub with_room : Slotted T → (k : ℕ) → Slotted T
   with_room m k =
       record m {
         capacity = if nat_le k (m.capacity - count m.slots)
             then m.capacity
             else count m.slots + k;
+        resizes = if nat_le k (m.capacity - count m.slots) then m.resizes else m.resizes + 1;
+      }
+
+  -- the map `m` after it shrank to its slots
+  abbrev pub shrunk : Slotted T → Slotted T
+  shrunk m =
+      record m {
+        capacity = length m.slots;
+        resizes = shrunk_resizes m.resizes m.capacity (length m.slots);
       }
 
   -- `new` has the key `k` with the value `x` in a slot that is free in `ss`, or in the next one
@@ -87,11 +108,12 @@ module _ {T : Type 0} where
   IsClonedSlot clones None copy = copy ≡ None
   IsClonedSlot clones (Some e) copy = (x : T) × (copy ≡ Some (e.0, x)) × clones e.1 x
 
-  -- the map `copy` has a clone of each value of `m`, in the same slot for the same key; it has
-  -- capacity for exactly these slots, and has issued as many keys
+  -- the map `copy` has a clone of each value of `m`, in the same slot for the same key; it has the
+  -- blocks of a new map with capacity for exactly these slots, and has issued as many keys
   pub record IsClonedMap (clones : T → T → Type 0) (m copy : Slotted T) : Type 0 where
     pub each : AllZip (IsClonedSlot clones) m.slots copy.slots
     pub capacity : copy.capacity ≡ length m.slots
+    pub resizes : copy.resizes ≡ fresh_resizes (length m.slots)
     pub issued : copy.issued ≡ m.issued
 
   -- the keys are equal, and so are the values by `same`

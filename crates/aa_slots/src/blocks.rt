@@ -1,13 +1,15 @@
 //! Growing, copying and dropping the two blocks of a slot map.
-ghost use Rattle.std.specs.Prelude.{◌≡◌, ◌<◌, ◌≤◌, [], length, IfErr, IfOk, OnErr, OnOk, IsOk, IsTrue};
+ghost use Rattle.std.specs.Prelude.{◌≡◌, ◌<◌, ◌≤◌, ◌+◌, [], length, min, Some, IfErr, IfOk, OnErr, OnOk, IsOk, IsTrue};
 ghost use Rattle.std.specs.Mem.{type_size};
 ghost use Rattle.allocator_api2.specs.Errors.{ClonesFail, IsErrorFor};
 ghost use Rattle.allocator_api2.specs.Places.{AreEmpty};
-ghost use Rattle.aa_slots.specs.Inside.{capacity_of, seen, states_of, AreClones, AreHeld, AreHeldBetween};
+ghost use Rattle.aa_slots.specs.Inside.{blocks_of, capacity_of, seen, states_of, AreClones, AreHeld, AreHeldBetween, MoveTogether};
+ghost use Rattle.aa_slots.specs.Slotted.{fresh_resizes, shrunk_resizes};
 ghost use Rattle.allocator_api2.specs.declared.collections.TryReserveErrorKind.TheVariants.{AllocError};
 
 use crate::slots::{Slot, State, slots_in};
 use allocator_api2::collections::{TryReserveError, TryReserveErrorKind};
+use allocator_api2::counter::Counter;
 use allocator_api2::raw_vec::RawVec;
 use allocator_api2::vec::Vec;
 use std::alloc::Allocator;
@@ -28,7 +30,8 @@ pub fn drop_between<T: Drop, A: Allocator>(
 )
     requires within { end ≤ length slots.now }
     requires held { AreHeldBetween slots.now values.old.places from end }
-    ensures { length values.new.places ≡ length values.old.places }
+    ensures places { length values.new.places ≡ length values.old.places }
+    ensures counts { values.new.grown ≡ values.old.grown }
 {
     'each: for index in from..end {
         if let State::Held(_) = slots[index].state() {
@@ -48,12 +51,48 @@ fn move_all<T, A: Allocator>(
     ensures held { AreHeld slots.now to.new.places }
     ensures moved { seen slots.now to.new.places ≡ seen slots.now from.old.places }
     ensures room { length to.new.places ≡ length to.old.places }
+    ensures counts { to.new.grown ≡ to.old.grown }
 {
     'each: for index in 0..slots.len() {
         if let State::Held(_) = slots[index].state() {
             to.put(index, from.take(index));
         }
     }
+}
+
+/// Counts a move to new blocks for `capacity` slots as one of `moves`. For none there are no blocks.
+#[inline(always)]
+pub fn count_move(moves: &mut Counter, capacity: usize)
+    ensures { moves.new.count ≡ moves.old.count + fresh_resizes capacity }
+{
+    if capacity != 0 {
+        moves.add(1);
+    }
+}
+
+// Moves all values to the block `fresh`, which was made for `capacity` slots, and frees their own.
+//
+// Counts this as one of `moves`, unless `capacity` is 0.
+#[tactic(auto, using(allocator_api2::proofs::Blocks::emptied))]
+fn move_to<T, A: Allocator>(
+    slots: &[Slot],
+    values: &mut RawVec<((), T), A>,
+    mut fresh: RawVec<((), T), A>,
+    capacity: usize,
+    moves: &mut Counter,
+)
+    requires held { AreHeld slots.now values.old.places }
+    requires room { length slots.now ≤ length fresh.places }
+    ensures held { AreHeld slots.now values.new.places }
+    ensures moved { seen slots.now values.new.places ≡ seen slots.now values.old.places }
+    ensures room { length values.new.places ≡ length fresh.places }
+    ensures counts { values.new.grown ≡ fresh.grown }
+    ensures counted { moves.new.count ≡ moves.old.count + fresh_resizes capacity }
+{
+    move_all(slots, values, &mut fresh);
+    values.forget_from(0);
+    *values = fresh;
+    count_move(moves, capacity);
 }
 
 // Returns a block with capacity for `capacity` elements, allocated by a clone of `alloc`.
@@ -66,6 +105,7 @@ fn block_for<E, A: Allocator + Clone>(
 ) -> Result<RawVec<E, A>, TryReserveError>
     ensures room { IfOk result (λ b. capacity ≤ length b.places) }
     ensures empty { IfOk result (λ b. AreEmpty b.places) }
+    ensures once { IfOk result (λ b. b.grown.blocks ≤ min 1 capacity) }
     ensures fits { A.is_infallible alloc.now → capacity ≡ 0 → IsOk result }
     ensures error { IfErr result
         (ClonesFail (A.is_infallible alloc.now) capacity (type_size E.row)) }
@@ -78,32 +118,6 @@ fn block_for<E, A: Allocator + Clone>(
     Ok(made)
 }
 
-// Reserves places for exactly `capacity` values, unless there are as many. Moves the values if it
-// allocates.
-#[tactic(auto, using(allocator_api2::proofs::Blocks::emptied))]
-fn reserve_places<T, A: Allocator + Clone>(
-    slots: &[Slot],
-    values: &mut RawVec<((), T), A>,
-    capacity: usize,
-) -> Result<(), TryReserveError>
-    requires held { AreHeld slots.now values.old.places }
-    requires more { length slots.now ≤ capacity }
-    ensures room { OnOk result (capacity ≤ length values.new.places) }
-    ensures held { AreHeld slots.now values.new.places }
-    ensures moved { seen slots.now values.new.places ≡ seen slots.now values.old.places }
-    ensures error { IfErr result (λ e. IsErrorFor e capacity) }
-    ensures unchanged { OnErr result (values.new ≡ values.old) }
-{
-    if capacity <= values.capacity() {
-        return Ok(());
-    }
-    let mut fresh = block_for(values.allocator(), capacity)?;
-    move_all(slots, values, &mut fresh);
-    values.forget_from(0);
-    *values = fresh;
-    Ok(())
-}
-
 // Reserves exactly `capacity` slots, more than there is memory for.
 fn reserve_slots<A: Allocator + Clone>(
     slots: &mut Option<Vec<Slot, A>>,
@@ -114,6 +128,7 @@ fn reserve_slots<A: Allocator + Clone>(
     requires more { capacity_of slots.old < capacity }
     ensures slots { states_of slots.new ≡ states_of slots.old }
     ensures room { OnOk result (capacity_of slots.new ≡ capacity) }
+    ensures counted { OnOk result (blocks_of slots.new ≡ blocks_of slots.old + 1) }
     ensures error { IfErr result (ClonesFail (A.is_infallible alloc.now) capacity 8) }
     ensures unchanged { OnErr result (slots.new ≡ slots.old) }
 {
@@ -131,21 +146,24 @@ fn reserve_slots<A: Allocator + Clone>(
 
 /// Reserves memory for exactly `capacity` slots with their values, more than there is memory for.
 ///
-/// If only the block of values grows before an allocation fails, the number of slots for which
-/// there is memory does not change.
+/// Moves both to new blocks, and counts this as one of `moves`.
 ///
 /// # Errors
 /// `CapacityOverflow` if the bytes exceed `isize::MAX`; `AllocError` with the number `capacity`.
+/// Both blocks are unchanged.
 #[cold]
 #[inline(never)]
+#[tactic(auto, using(allocator_api2::proofs::Blocks::emptied))]
 pub fn reserve<T, A: Allocator + Clone>(
     slots: &mut Option<Vec<Slot, A>>,
     values: &mut RawVec<((), T), A>,
     capacity: usize,
+    moves: &mut Counter,
 ) -> Result<(), TryReserveError>
     requires held { AreHeld (states_of slots.old) values.old.places }
     requires within { length (states_of slots.old) ≤ capacity_of slots.old }
     requires places { capacity_of slots.old ≤ length values.old.places }
+    requires together { MoveTogether slots.old values.old moves.old.count }
     requires more { capacity_of slots.old < capacity }
 
     // The slots and their values are unchanged, each value in its place.
@@ -154,19 +172,25 @@ pub fn reserve<T, A: Allocator + Clone>(
     ensures values { seen (states_of slots.new) values.new.places
         ≡ seen (states_of slots.old) values.old.places }
 
-    // There is memory for more slots on success, and as before on an error.
+    // There is memory for more slots on success, in new blocks, and as before on an error.
     ensures places { capacity_of slots.new ≤ length values.new.places }
+    ensures together { MoveTogether slots.new values.new moves.new.count }
     ensures capacity { OnOk result (capacity_of slots.new ≡ capacity) }
+    ensures counted { OnOk result (blocks_of slots.new ≡ blocks_of slots.old + 1) }
     ensures error { IfErr result (λ e. IsErrorFor e capacity) }
-    ensures unchanged { OnErr result (capacity_of slots.new ≡ capacity_of slots.old) }
+    ensures unchanged { OnErr result (slots.new ≡ slots.old) }
+    ensures kept { OnErr result (values.new ≡ values.old) }
 {
-    reserve_places(slots_in(slots), values, capacity)?;
-    reserve_slots(slots, values.allocator(), capacity)
+    let fresh = block_for(values.allocator(), capacity)?;
+    reserve_slots(slots, values.allocator(), capacity)?;
+    move_to(slots_in(slots), values, fresh, capacity, moves);
+    Ok(())
 }
 
 /// Shrinks the memory to that for exactly the slots that there are.
 ///
-/// Moves the values into a smaller block, unless there is memory for no more slots.
+/// Moves both to smaller blocks, unless there is memory for no more slots, and counts this as one of
+/// `moves`, unless there are no slots.
 ///
 /// # Errors
 /// `AllocError` with the number of slots. Both blocks are unchanged.
@@ -174,10 +198,12 @@ pub fn reserve<T, A: Allocator + Clone>(
 pub fn shrink<T, A: Allocator + Clone>(
     slots: &mut Vec<Slot, A>,
     values: &mut RawVec<((), T), A>,
+    moves: &mut Counter,
 ) -> Result<(), TryReserveError>
     requires held { AreHeld slots.old.items values.old.places }
     requires within { length slots.old.items ≤ slots.old.capacity }
     requires places { slots.old.capacity ≤ length values.old.places }
+    requires together { MoveTogether (Some slots.old) values.old moves.old.count }
 
     // The slots and their values are unchanged, each value in its place.
     ensures slots { slots.new.items ≡ slots.old.items }
@@ -187,7 +213,10 @@ pub fn shrink<T, A: Allocator + Clone>(
 
     // There is memory for these slots on success, and as before on an error.
     ensures places { slots.new.capacity ≤ length values.new.places }
+    ensures together { MoveTogether (Some slots.new) values.new moves.new.count }
     ensures capacity { OnOk result (slots.new.capacity ≡ length slots.old.items) }
+    ensures counted { OnOk result (slots.new.grown.blocks ≡ shrunk_resizes
+        slots.old.grown.blocks slots.old.capacity (length slots.old.items)) }
     ensures error { IfErr result (λ e. IsErrorFor e (length slots.old.items)) }
     ensures fits { slots.old.capacity ≡ length slots.old.items → IsOk result }
     ensures unchanged { OnErr result (slots.new ≡ slots.old) }
@@ -197,11 +226,9 @@ pub fn shrink<T, A: Allocator + Clone>(
     if len == slots.capacity() {
         return Ok(());
     }
-    let mut fresh = block_for(values.allocator(), len)?;
+    let fresh = block_for(values.allocator(), len)?;
     slots.shrink_to_fit()?;
-    move_all(slots.as_slice(), values, &mut fresh);
-    values.forget_from(0);
-    *values = fresh;
+    move_to(slots.as_slice(), values, fresh, len, moves);
     Ok(())
 }
 
@@ -211,6 +238,8 @@ pub fn clone_slots<A: Allocator + Clone>(
 ) -> Result<Option<Vec<Slot, A>>, TryReserveError>
     ensures slots { IfOk result (λ copy. states_of copy ≡ states_of slots.now) }
     ensures capacity { IfOk result (λ copy. capacity_of copy ≡ length (states_of slots.now)) }
+    ensures blocks { IfOk result
+        (λ copy. blocks_of copy ≡ fresh_resizes (length (states_of slots.now))) }
     ensures fits { ((a : A) → A.is_infallible a) → states_of slots.now ≡ [] → IsOk result }
     ensures error { IfErr result
         (ClonesFail ((a : A) → A.is_infallible a) (length (states_of slots.now)) 8) }
@@ -233,6 +262,7 @@ fn put_clones<T: Clone + Drop, A: Allocator>(
     requires room { length slots.now ≤ length to.old.places }
     ensures made { IsTrue result → AreClones T.is_clone slots.now from.now.places to.new.places }
     ensures room { length to.new.places ≡ length to.old.places }
+    ensures counts { to.new.grown ≡ to.old.grown }
     ensures fits { slots.now ≡ [] → IsTrue result }
 {
     'each: for index in 0..slots.len() {
@@ -259,6 +289,7 @@ pub fn clone_values<T: Clone + Drop, A: Allocator + Clone>(
     ensures made { IfOk result
         (λ copy. AreClones T.is_clone slots.now values.now.places copy.places) }
     ensures room { IfOk result (λ copy. length slots.now ≤ length copy.places) }
+    ensures once { IfOk result (λ copy. copy.grown.blocks ≤ min 1 (length slots.now)) }
     ensures fits { ((a : A) → A.is_infallible a) → slots.now ≡ [] → IsOk result }
     ensures error { IfErr result (λ e. IsErrorFor e (length slots.now)) }
 {

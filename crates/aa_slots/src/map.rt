@@ -12,6 +12,7 @@ use crate::iter::{Iter, Keys, Values};
 pub use crate::key::{Key, KeyData};
 use crate::slots::{Chain, Slot, first_held, is_held_at, put, release, slots_in};
 use allocator_api2::collections::{Refused, TryReserveError, TryReserveErrorKind};
+use allocator_api2::counter::Counter;
 use allocator_api2::raw_vec::RawVec;
 use allocator_api2::vec::Vec;
 use std::alloc::{Allocator, Global};
@@ -32,8 +33,8 @@ mod traits;
 
 /// A slot map: it returns a key for each value inserted, which finds the value until it is removed.
 ///
-/// A contract sees a map as its slots, its capacity, and the number of keys issued. A slot is free,
-/// or has a value and the serial of its key.
+/// A contract sees a map as its slots, its capacity, how often it moved to new blocks, and the number
+/// of keys issued. A slot is free, or has a value and the serial of its key.
 ///
 /// `K` is the kind of its keys, any type: a map takes no keys of another kind, so that the keys of
 /// two maps with different kinds can't be confused. Use a key only with the map that returned it:
@@ -45,6 +46,8 @@ pub struct SlotMap<T, A: Allocator = Global, K = ()> {
     slots: Option<Vec<Slot, A>>,
     free: Chain,
     issued: u64,
+    // how often the values moved to a new block
+    moves: Counter,
     kind: PhantomData<K>,
 }
 
@@ -53,12 +56,13 @@ impl<T, A: Allocator, K> Model for SlotMap<T, A, K> {
 
     ghost Value = { Slotted T };
 
-    ghost use Rattle.aa_slots.specs.Inside.{capacity_of, states_of, view_of, IsSound};
+    ghost use Rattle.aa_slots.specs.Inside.{capacity_of, states_of, view_of, IsSound, MoveTogether};
 
     ghost view = { λ m. view_of m.slots m.values.places m.issued };
 
-    ghost invariant = { λ m. IsSound
-        (states_of m.slots) m.values.places m.free (capacity_of m.slots) };
+    ghost invariant = { λ m.
+        IsSound (states_of m.slots) m.values.places m.free (capacity_of m.slots)
+        × MoveTogether m.slots m.values m.moves.count };
 }
 
 impl<T: Drop, A: Allocator, K> Drop for SlotMap<T, A, K> {
@@ -70,6 +74,7 @@ impl<T: Drop, A: Allocator, K> Drop for SlotMap<T, A, K> {
             slots,
             free: _,
             issued: _,
+            moves: _,
             kind: _,
         } = self;
         let all = slots_in(&slots);
@@ -86,6 +91,7 @@ impl<T, A: Allocator> SlotMap<T, A> {
     pub fn new_in(alloc: A) -> Self
         ensures slots { result.slots ≡ [] }
         ensures capacity { result.capacity ≡ 0 }
+        ensures resizes { result.resizes ≡ 0 }
         ensures issued { result.issued ≡ 0 }
     {
         SlotMap::with_key_in(alloc)
@@ -102,6 +108,7 @@ impl<T, A: Allocator, K> SlotMap<T, A, K> {
     pub fn with_key_in(alloc: A) -> Self
         ensures slots { result.slots ≡ [] }
         ensures capacity { result.capacity ≡ 0 }
+        ensures resizes { result.resizes ≡ 0 }
         ensures issued { result.issued ≡ 0 }
     {
         SlotMap {
@@ -109,6 +116,7 @@ impl<T, A: Allocator, K> SlotMap<T, A, K> {
             slots: None,
             free: Chain { first: 0, count: 0 },
             issued: 0,
+            moves: Counter::zero(),
             kind: PhantomData,
         }
     }
@@ -215,13 +223,17 @@ impl<T: Drop, A: Allocator + Clone, K> SlotMap<T, A, K> {
         // If the map is not full, it succeeds.
         ensures fits { HasRoom self.old 1 → IsOk result }
 
-        // On success, there is capacity for one more value. Only the capacity may change.
+        // On success, there is capacity for one more value. Only the capacity and the blocks may
+        // change.
         ensures enough { OnOk result (count self.new.slots < self.new.capacity) }
         ensures slots { self.new.slots ≡ self.old.slots }
         ensures issued { self.new.issued ≡ self.old.issued }
         ensures capacity { OnOk result (self.new.capacity ≡
             (if nat_lt (count self.old.slots) self.old.capacity then self.old.capacity
             else grown self.old.capacity)) }
+        ensures resizes { OnOk result (self.new.resizes ≡
+            (if nat_lt (count self.old.slots) self.old.capacity then self.old.resizes
+            else self.old.resizes + 1)) }
 
         // An error has the requested capacity, and leaves the map unchanged.
         ensures error { IfErr result (λ e. IsErrorFor e (grown self.old.capacity)) }
@@ -255,6 +267,7 @@ impl<T: Drop, A: Allocator + Clone, K> SlotMap<T, A, K> {
         ensures slots { self.new.slots ≡ self.old.slots }
         ensures issued { self.new.issued ≡ self.old.issued }
         ensures capacity { OnOk result (self.new.capacity ≡ grown self.old.capacity) }
+        ensures resizes { OnOk result (self.new.resizes ≡ self.old.resizes + 1) }
         ensures error { IfErr result (λ e. IsErrorFor e (grown self.old.capacity)) }
         ensures unchanged { OnErr result (self.new ≡ self.old) }
     {
@@ -284,11 +297,14 @@ impl<T: Drop, A: Allocator + Clone, K> SlotMap<T, A, K> {
         ensures others { IfOk result
             (λ k. (j : KeyData) → j ≢ k.parts → find self.new j ≡ find self.old j) }
 
-        // There is one value more, and the capacity grows only if the map was full.
+        // There is one value more. The capacity grows, in new blocks, only if the map was full.
         ensures count { OnOk result (count self.new.slots ≡ count self.old.slots + 1) }
         ensures capacity { OnOk result (self.new.capacity ≡
             (if nat_lt (count self.old.slots) self.old.capacity then self.old.capacity
             else grown self.old.capacity)) }
+        ensures resizes { OnOk result (self.new.resizes ≡
+            (if nat_lt (count self.old.slots) self.old.capacity then self.old.resizes
+            else self.old.resizes + 1)) }
 
         // An error returns the value, has the requested capacity, and leaves the map unchanged.
         ensures returned { IfErr result (λ r. r.source ≡ value) }

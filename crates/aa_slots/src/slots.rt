@@ -193,6 +193,8 @@ fn put_first<T, A: Allocator>(
         (record { index = result; serial = serial }) value
         (seen slots.new.items values.new.places) }
     ensures capacity { slots.new.capacity ≡ slots.old.capacity }
+    ensures counts { slots.new.grown ≡ slots.old.grown }
+    ensures value_counts { values.new.grown ≡ values.old.grown }
 {
     let at = free.first;
     match slots[at].state() {
@@ -224,6 +226,8 @@ fn push_new<T, A: Allocator>(
         (record { index = result; serial = serial }) value
         (seen slots.new.items values.new.places) }
     ensures capacity { slots.new.capacity ≡ slots.old.capacity }
+    ensures counts { slots.new.grown ≡ slots.old.grown }
+    ensures value_counts { values.new.grown ≡ values.old.grown }
 {
     let at = slots.len();
     match slots.push_within_capacity(Slot::held(serial)) {
@@ -266,6 +270,8 @@ pub fn put<T, A: Allocator>(
         (record { index = result; serial = serial }) value
         (seen slots.new.items values.new.places) }
     ensures capacity { slots.new.capacity ≡ slots.old.capacity }
+    ensures counts { slots.new.grown ≡ slots.old.grown }
+    ensures value_counts { values.new.grown ≡ values.old.grown }
 {
     if free.count == 0 {
         push_new(slots, values, free, serial, value)
@@ -295,6 +301,8 @@ pub fn release<T, A: Allocator>(
     ensures freed { seen slots.new.items values.new.places
         ≡ slice_set (seen slots.old.items values.old.places) at None }
     ensures capacity { slots.new.capacity ≡ slots.old.capacity }
+    ensures counts { slots.new.grown ≡ slots.old.grown }
+    ensures value_counts { values.new.grown ≡ values.old.grown }
 {
     slots.prove_capacity_bounds();
     slots[at] = Slot::free(free.first);

@@ -1,7 +1,7 @@
 //! The capacity of a slot map.
 ghost use Rattle.std.specs.Prelude.{◌≡◌, ◌+◌, ◌-◌, [], length, IfErr, IfOk, IsOk, OnErr, OnOk};
 ghost use Rattle.allocator_api2.specs.Errors.{IsErrorFor};
-ghost use Rattle.aa_slots.specs.Slotted.{count, with_room, HasRoom};
+ghost use Rattle.aa_slots.specs.Slotted.{count, fresh_resizes, shrunk, with_room, HasRoom};
 
 use crate::blocks;
 use crate::map::SlotMap;
@@ -20,6 +20,7 @@ impl<T: Drop, A: Allocator + Clone> SlotMap<T, A> {
         ensures slots { IfOk result (λ m. m.slots ≡ []) }
         ensures issued { IfOk result (λ m. m.issued ≡ 0) }
         ensures capacity { IfOk result (λ m. m.capacity ≡ capacity) }
+        ensures resizes { IfOk result (λ m. m.resizes ≡ fresh_resizes capacity) }
         ensures fits { capacity ≡ 0 → IsOk result }
         ensures error { IfErr result (λ e. IsErrorFor e capacity) }
     {
@@ -40,6 +41,7 @@ impl<T: Drop, A: Allocator + Clone, K> SlotMap<T, A, K> {
         ensures slots { IfOk result (λ m. m.slots ≡ []) }
         ensures issued { IfOk result (λ m. m.issued ≡ 0) }
         ensures capacity { IfOk result (λ m. m.capacity ≡ capacity) }
+        ensures resizes { IfOk result (λ m. m.resizes ≡ fresh_resizes capacity) }
         ensures fits { capacity ≡ 0 → IsOk result }
         ensures error { IfErr result (λ e. IsErrorFor e capacity) }
     {
@@ -68,7 +70,12 @@ impl<T: Drop, A: Allocator + Clone, K> SlotMap<T, A, K> {
             return Ok(());
         }
         match self.len().checked_add(additional) {
-            Some(capacity) => blocks::reserve(&mut self.slots, &mut self.values, capacity),
+            Some(capacity) => blocks::reserve(
+                &mut self.slots,
+                &mut self.values,
+                capacity,
+                &mut self.moves,
+            ),
             None => Err(TryReserveErrorKind::CapacityOverflow.into()),
         }
     }
@@ -82,14 +89,13 @@ impl<T: Drop, A: Allocator + Clone, K> SlotMap<T, A, K> {
     /// `AllocError` with the number of slots, also if a clone of the allocator fails. The map is
     /// unchanged.
     pub fn shrink_to_fit(&mut self) -> Result<(), TryReserveError>
-        ensures shrunk { OnOk result
-            (self.new ≡ record self.old { capacity = length self.old.slots }) }
+        ensures shrunk { OnOk result (self.new ≡ shrunk self.old) }
         ensures fits { self.old.capacity ≡ length self.old.slots → IsOk result }
         ensures error { IfErr result (λ e. IsErrorFor e (length self.old.slots)) }
         ensures unchanged { OnErr result (self.new ≡ self.old) }
     {
         match &mut self.slots {
-            Some(slots) => blocks::shrink(slots, &mut self.values),
+            Some(slots) => blocks::shrink(slots, &mut self.values, &mut self.moves),
             None => Ok(()),
         }
     }

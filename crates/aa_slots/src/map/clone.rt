@@ -4,10 +4,11 @@ ghost use Rattle.allocator_api2.specs.Clones.{ClonesAreEqual};
 ghost use Rattle.allocator_api2.specs.Errors.{IsErrorFor};
 ghost use Rattle.aa_slots.specs.Slotted.{IsClonedMap};
 
-use crate::blocks::{clone_slots, clone_values};
+use crate::blocks::{clone_slots, clone_values, count_move};
 use crate::map::SlotMap;
 use crate::slots::slots_in;
 use allocator_api2::collections::TryReserveError;
+use allocator_api2::counter::Counter;
 use std::alloc::{AllocError, Allocator};
 use std::marker::PhantomData;
 
@@ -33,11 +34,14 @@ impl<T: Clone + Drop, A: Allocator + Clone, K> SlotMap<T, A, K> {
     {
         let slots = clone_slots(&self.slots)?;
         let values = clone_values(slots_in(&self.slots), &self.values)?;
+        let mut moves = Counter::zero();
+        count_move(&mut moves, self.slot_count());
         Ok(SlotMap {
             values,
             slots,
             free: self.free,
             issued: self.issued,
+            moves,
             kind: PhantomData,
         })
     }

@@ -22,6 +22,7 @@ impl<T: Drop, A: Allocator, K> SlotMap<T, A, K> {
             slots,
             free: _,
             issued: _,
+            moves: _,
             kind: _,
         } = self;
         IntoIter::over(slots, values, count)

@@ -46,7 +46,7 @@ impl<T: Drop, A: Allocator, K> IndexMut<Key<K>> for SlotMap<T, A, K> {
 }
 
 impl<T: Drop, A: Allocator, K> MadeWith<A> for SlotMap<T, A, K> {
-    ghost is_made_with = { λ m. (m.slots ≡ []) × (m.issued ≡ 0) };
+    ghost is_made_with = { λ m. (m.slots ≡ []) × (m.resizes ≡ 0) × (m.issued ≡ 0) };
 
     /// Returns an empty map as `new_in` does.
     fn made_with(alloc: A) -> Self {
@@ -55,11 +55,11 @@ impl<T: Drop, A: Allocator, K> MadeWith<A> for SlotMap<T, A, K> {
 }
 
 impl<T: Drop, A: Allocator + Clone, K> Emptied for SlotMap<T, A, K> {
-    ghost is_emptied = { λ m. (m.slots ≡ []) × (m.issued ≡ 0) };
+    ghost is_emptied = { λ m. (m.slots ≡ []) × (m.resizes ≡ 0) × (m.issued ≡ 0) };
 
     /// Returns an empty map that has issued no keys, over a clone of the allocator of `like`.
     fn emptied(like: &Self) -> Result<Self, AllocError>
-        ensures made { IfOk result (λ m. (m.slots ≡ []) × (m.issued ≡ 0)) }
+        ensures made { IfOk result (λ m. (m.slots ≡ []) × (m.resizes ≡ 0) × (m.issued ≡ 0)) }
         ensures fits { ((a : A) → A.is_infallible a) → IsOk result }
     {
         Ok(SlotMap::with_key_in(like.values.allocator().clone()?))

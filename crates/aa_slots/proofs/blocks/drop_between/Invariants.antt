@@ -6,4 +6,5 @@ use Rattle.aa_slots.proofs.blocks.drop_between.Given as goal
 abbrev pub invariant-each : goal.invariant-each
 invariant-each g l =
     (length l.values.places ≡ length l.fn.values.places)
+    × (l.values.grown ≡ l.fn.values.grown)
     × AreHeldBetween l.slots l.values.places l.index l.end

@@ -11,4 +11,5 @@ invariant-each g l = record {
   others : (i : ℕ) → l.index ≤ i
       → get_or l.from.places i None ≡ get_or l.fn.from.places i None;
   room : length l.to.places ≡ length l.fn.to.places;
+  counts : l.to.grown ≡ l.fn.to.grown;
 }

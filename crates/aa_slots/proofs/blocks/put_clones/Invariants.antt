@@ -10,4 +10,5 @@ invariant-each g l = record {
       → (x y : _) × (get_or l.from.places i None ≡ Some (tt, x))
       × (get_or l.to.places i None ≡ Some (tt, y)) × g.T.Clone.is_clone x y;
   room : length l.to.places ≡ length l.fn.to.places;
+  counts : l.to.grown ≡ l.fn.to.grown;
 }

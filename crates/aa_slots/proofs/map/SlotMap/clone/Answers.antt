@@ -2,6 +2,7 @@ use Rattle.aa_slots.proofs.Common.{Slotted, ap, length, refl, rules, sym, ◌∙
 use Rattle.aa_slots.proofs.Cloning.{each-cloned, same-cloned, sound-cloned}
 use Rattle.aa_slots.proofs.Seen.{length-seen, none-seen}
 use Rattle.aa_slots.specs.Inside.{states_of}
+use Rattle.aa_slots.specs.Slotted.{fresh_resizes}
 use Rattle.aa_slots.proofs.map.SlotMap.clone.Goals as goal
 
 pub returns-in_err-slots-clause-fits : goal.returns-in_err-slots-clause-fits
@@ -35,8 +36,10 @@ returns-clause-copied g c = λ equal.
 pub invariant_of-result : goal.invariant_of-result
 invariant_of-result g c =
     let made = rw c.slots_in.ensures at c.in_ok-values.ensures.made in
-    let room = rw c.slots_in.ensures at c.in_ok-values.ensures.room in
-    rw (c.in_ok-slots.ensures.slots, c.in_ok-slots.ensures.capacity) (sound-cloned _ _ _ _ _ c.self.invariant made room)
+    let room = rw c.slots_in.ensures at c.in_ok-values.ensures.room in (
+      rw (c.in_ok-slots.ensures.slots, c.in_ok-slots.ensures.capacity) (sound-cloned _ _ _ _ _ c.self.invariant.0 made room),
+      search rules,
+    )
 
 pub returns-clause-made : goal.returns-clause-made
 returns-clause-made g c =
@@ -44,5 +47,6 @@ returns-clause-made g c =
     rw (← c.self.view_is) (record {
       each = rw c.in_ok-slots.ensures.slots (each-cloned _ _ _ made);
       capacity = c.in_ok-slots.ensures.capacity ∙ sym (length-seen _ c.self.inside.values.places);
+      resizes = c.in_ok-slots.ensures.blocks ∙ ap fresh_resizes (sym (length-seen _ c.self.inside.values.places));
       issued = refl;
     })

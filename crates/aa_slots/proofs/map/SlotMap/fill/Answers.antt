@@ -15,6 +15,7 @@ each-preserved g c =
           ∙ filled-next w (before at) (remaining at) c.in-Some.old.now n.value ∙ h.2,
       h.3,
       h.4,
+      h.5,
     )
 
 pub returns-clause-entries : goal.returns-clause-entries

@@ -8,5 +8,5 @@ returns g c =
     let key = c.args.key in
     c.is_held_at.ensures
     ∙ ap (λ ss. is_held_by key.serial (state_at ss key.index)) c.slots_in.ensures
-    ∙ found-by _ _ c.self.invariant.held key.index key.serial
+    ∙ found-by _ _ c.self.invariant.0.held key.index key.serial
     ∙ ap (λ (m : Slotted _). is_some (find m key)) c.self.view_is

@@ -14,6 +14,6 @@ returns-in_err-serial g c =
 pub returns : goal.returns
 returns g c =
     let is = sym c.in_ok-serial.was ∙ c.serial_at.ensures ∙ ap (λ ss. serial_in (state_at ss c.args.index)) c.slots_in.ensures in
-    let at = some-serial _ c.self.inside.values.places c.self.invariant.held c.args.index c.in_ok-serial.serial is in
+    let at = some-serial _ c.self.inside.values.places c.self.invariant.0.held c.args.index c.in_ok-serial.serial is in
     sym (ap (option_map (λ e. record { index = c.args.index; serial = e.0 })) at.1)
     ∙ ap (λ (m : Slotted _). option_map (λ e. record { index = c.args.index; serial = e.0 }) (slot_at m.slots c.args.index)) c.self.view_is

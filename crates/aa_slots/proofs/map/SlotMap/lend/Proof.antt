@@ -90,7 +90,7 @@ lend_spec 𝓤 𝓛 𝓜 𝓡 wired Y Z X LY LZ LX g gd dd met md =
     pure_i ! ((Struct (shape (token.the_type (named_lft 4 0 tt κs) unit (V Y Z X g)))).own_val (block_ptr bl o, (tt, tt)) (out ∷ [])) (λ vss. (tt, (tt, ((λ uss. (tt, tt)), tt)))) ((vptr bl o ∷ [], (vstruct vnil ∷ [], tt)), (refl, (refl, ((tt, (refl, tt)), tt)))) $ fjoin ! $
     let at_slots : Is₀.Denot = record { ref_ptr = (rb, pi); now = t.slots } in let both : Val = vstruct (vcons (vptr rb pi) (vcons out vnil)) in
     let all : seen (states_of t.slots) r.places ≡ d.slots = ap (seen (states_of t.slots)) same ∙ ap (λ (u : R.Denot). u.slots) viewed.0 in
-    let held : AreHeld (states_of t.slots) r.places = subst (λ cs. AreHeld (states_of t.slots) cs) (sym same) viewed.1.held in
+    let held : AreHeld (states_of t.slots) r.places = subst (λ cs. AreHeld (states_of t.slots) cs) (sym same) viewed.1.0.held in
     move ! (2 ∷ []) $ move ! (1 ∷ []) $ nothing ! $ move ! (1 ∷ 0 ∷ []) $ fjoin ! $ move ! (1 ∷ 0 ∷ []) $ fjoin ! $ feq_i ! (List Val) (both ∷ []) (both ∷ []) refl $ fjoin ! $
     fpack ! (Valss (Is₀ ∷ Tok ∷ [])) (within (Declared.shape (tuple_type (Is₀ ∷ Tok ∷ []))) (at_slots, (r', tt)) (both ∷ [])) (vptr rb pi ∷ [], (out ∷ [], tt)) $
     lands_as ! (ap only is_word) refl (tt, (tt, (tt, tt))) $
