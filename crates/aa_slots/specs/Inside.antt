@@ -116,8 +116,8 @@ module _ {T : Type 0} where
     pub within : length ss ≤ capacity
     pub room : capacity ≤ length cs
 
-  -- the values moved to a new block `moves` times, each time with the slots, and their block is the
-  -- only one that was allocated for this capacity
+  -- the values moved `moves` times to a new block, as often as the slots, and their block did not
+  -- grow since
   pub record MoveTogether {A : Type 0} (slots : Option (Vector State A)) (values : Block (⊤ × T) A)
       (moves : ℕ) : Type 0 where
     pub moved : moves ≡ blocks_of slots

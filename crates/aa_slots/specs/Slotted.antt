@@ -21,8 +21,8 @@ grown c = c + max c 4
 abbrev pub fresh_resizes : (c : ℕ) → ℕ
 fresh_resizes c = if c == 0 then 0 else 1
 
--- the number of resizes of a map with `n` slots and the capacity `c` after it shrank to these slots:
--- the old number `r` if `c` is `n`, else also that of a new map
+-- the number of resizes of a map with `n` slots and the capacity `c` after it shrank to these: the
+-- old number `r` if `c` is `n`, else also those of a new map
 abbrev pub shrunk_resizes : (r c n : ℕ) → ℕ
 shrunk_resizes r c n = if c == n then r else r + fresh_resizes n
 

@@ -60,7 +60,7 @@ fn move_all<T, A: Allocator>(
     }
 }
 
-/// Counts a move to new blocks for `capacity` slots as one of `moves`. For none there are no blocks.
+/// Counts a move to blocks for `capacity` slots as one of `moves`, unless there are none.
 #[inline(always)]
 pub fn count_move(moves: &mut Counter, capacity: usize)
     ensures { moves.new.count ≡ moves.old.count + fresh_resizes capacity }
@@ -189,7 +189,7 @@ pub fn reserve<T, A: Allocator + Clone>(
 
 /// Shrinks the memory to that for exactly the slots that there are.
 ///
-/// Moves both to smaller blocks, unless there is memory for no more slots, and counts this as one of
+/// Moves both to smaller blocks, unless there is memory for no more slots. Counts this as one of
 /// `moves`, unless there are no slots.
 ///
 /// # Errors

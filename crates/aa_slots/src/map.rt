@@ -33,8 +33,8 @@ mod traits;
 
 /// A slot map: it returns a key for each value inserted, which finds the value until it is removed.
 ///
-/// A contract sees a map as its slots, its capacity, how often it moved to new blocks, and the number
-/// of keys issued. A slot is free, or has a value and the serial of its key.
+/// A contract sees a map as its slots, its capacity, how often it moved to new blocks, and the
+/// number of keys issued. A slot is free, or has a value and the serial of its key.
 ///
 /// `K` is the kind of its keys, any type: a map takes no keys of another kind, so that the keys of
 /// two maps with different kinds can't be confused. Use a key only with the map that returned it:

@@ -33,9 +33,10 @@ impl<T: Clone + Drop, A: Allocator + Clone, K> SlotMap<T, A, K> {
         ensures error { IfErr result (λ e. IsErrorFor e (length self.now.slots)) }
     {
         let slots = clone_slots(&self.slots)?;
-        let values = clone_values(slots_in(&self.slots), &self.values)?;
+        let all = slots_in(&self.slots);
+        let values = clone_values(all, &self.values)?;
         let mut moves = Counter::zero();
-        count_move(&mut moves, self.slot_count());
+        count_move(&mut moves, all.len());
         Ok(SlotMap {
             values,
             slots,
