@@ -8,14 +8,15 @@ use Rattle.std.proofs.lemmas.Bool.Decides.{nat_tests}
 use Rattle.std.proofs.lemmas.List.{set_at}
 use Rattle.std.proofs.lemmas.List.Edits.{get_or-insert_at}
 use Rattle.aa_ordered.specs.Balance.{joined, lengths, position, IsAt, IsBalanced}
-use Rattle.aa_ordered.specs.Capacity.{capacity_of}
+use Rattle.aa_ordered.specs.Capacity.{capacity_of, resizes_to}
 use Rattle.aa_ordered.specs.Entries.{value, IsFound, IsGap, OrderedView}
 use Rattle.aa_ordered.specs.Inserting.{Inserts}
 use Rattle.aa_ordered.specs.Inside.{view_of, IsMap}
-use Rattle.aa_ordered.specs.Leaves.{list_at, with_list, LeavesView}
+use Rattle.aa_ordered.specs.Leaves.{list_at, resizes_to as leaves_to, with_list, LeavesView}
 use Rattle.aa_ordered.proofs.Flat.{read-joined}
 use Rattle.aa_ordered.proofs.Found.{found-some}
 use Rattle.aa_ordered.proofs.Reading.{got, written-joined, written-map}
+use Rattle.aa_ordered.proofs.Resizing.{moved-to}
 use Rattle.aa_ordered.proofs.Sound.{absent-inserted, inserted-map}
 
 set-insert : {T : Type 0} (xs : List T) (p : ℕ) (y z : T) → p ≤ length xs → slice_set (insert xs p y) p z ≡ insert xs p z
@@ -46,9 +47,10 @@ module _ {K V : Type 0} (cmp : K → K → Ordering) (k : K) (leaves : LeavesVie
     pub added-map : IsTotalOrder cmp → (len : ℕ) → IsMap cmp leaves len → IsBalanced (lengths new.lists) → (w : V) → IsMap cmp (with_list new i (slice_set (list_at new i) at (e.0, w))) (len + 1)
     added-map total len m b w = written-map cmp new i at a e r w (len + 1) (inserted-map cmp k leaves v is p f total len m item new q b)
 
-    pub added-inserts : (length (joined leaves.lists) < capacity_of leaves.room → new.room ≡ leaves.room) → leaves.room ≤ new.room → (w : V) → Inserts cmp v k w (view_of (with_list new i (slice_set (list_at new i) at (e.0, w))))
-    added-inserts room grown w = record {
+    pub added-inserts : (length (joined leaves.lists) < capacity_of leaves.room → new.room ≡ leaves.room) → leaves.room ≤ new.room → new.resizes ≡ leaves_to leaves new.room → (w : V) → Inserts cmp v k w (view_of (with_list new i (slice_set (list_at new i) at (e.0, w))))
+    added-inserts room grown moved w = record {
       entries = added-joined w;
       capacity = subst (λ (u : OrderedView K V). length u.entries < u.capacity → capacity_of new.room ≡ u.capacity) is (λ h. ap capacity_of (room h));
       grown = subst (λ (u : OrderedView K V). u.capacity ≤ capacity_of new.room) is (capacity-more leaves.room new.room grown);
+      resizes = subst (λ (u : OrderedView K V). new.resizes ≡ resizes_to u (capacity_of new.room)) is (moved ∙ moved-to leaves new.room);
     }

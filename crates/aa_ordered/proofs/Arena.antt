@@ -146,7 +146,7 @@ module _ {T : Type 0} (cs : List (Option T)) (hs : List Head) (used : ℕ) (is :
         get_or-map (list_of cs) (take used hs) i h d there ∙ ap (list_of cs) (get_or-take used hs i h lt ∙ sym read)
 
     -- the same, of the view of the arena
-    module _ (v : LeavesView T) (seen : record { lists = map (list_of cs) (take used hs); room = length hs } ≡ v) where
+    module _ {times : ℕ} (v : LeavesView T) (seen : record { lists = map (list_of cs) (take used hs); room = length hs; resizes = times } ≡ v) where
       pub seen-count : length v.lists ≡ used
       seen-count = ap (λ (w : LeavesView T). length w.lists) (sym seen) ∙ count-lists
 
@@ -166,7 +166,7 @@ module _ {T : Type 0} (cs : List (Option T)) (hs : List Head) (used : ℕ) (is :
     pub list : get_or v.lists i [] ≡ list_of cs h
     pub long : length (get_or v.lists i []) ≡ h.len
 
-  pub found : (i : ℕ) (h : Head) → h ≡ get_or hs i h → (v : LeavesView T) → record { lists = map (list_of cs) (take used hs); room = length hs } ≡ v → i < length v.lists → IsFound v i h
+  pub found : {times : ℕ} → (i : ℕ) (h : Head) → h ≡ get_or hs i h → (v : LeavesView T) → record { lists = map (list_of cs) (take used hs); room = length hs; resizes = times } ≡ v → i < length v.lists → IsFound v i h
   found i h read v seen lt =
       let used-lt : i < used = omega (arith, lt, seen-count i h read v seen) in
       let held = head-held i h read used-lt in

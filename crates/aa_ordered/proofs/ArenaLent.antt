@@ -27,9 +27,11 @@ use mir.Syntax.{w64}
 use Rattle.core.specs.declared.alloc.Allocator as alloc
 use Rattle.allocator_api2.specs.contracts.vec.Vec as vec
 use Rattle.allocator_api2.proofs.vec.Vec.TheLaws as vec_laws
+use Rattle.aa_raw.proofs.counter.Counter.TheLaws as counter_laws
 use Rattle.aa_raw.proofs.raw_vec.RawVec.TheLaws as block_laws
 use Rattle.aa_raw.specs.Block.{with_places}
 use Rattle.aa_raw.specs.Entries.{Entry, with_values}
+use Rattle.aa_raw.specs.contracts.counter.Counter as counter
 use Rattle.aa_raw.specs.contracts.raw_vec.RawVec as block
 use Rattle.std.specs.Prelude.{length, map, take}
 use Rattle.aa_ordered.proofs.Revalued.{read-lists, same-lists, stays}
@@ -72,7 +74,7 @@ module _ (X Y Z : RattleType) (g : alloc.Ghosts Z.Denot) where
   of_row R = record { row = R; ty = lone R.mir }
 
   abbrev rest_ms : List Member
-  rest_ms = of_row usize ∷ []
+  rest_ms = of_row usize ∷ of_row counter.the_row ∷ []
 
   abbrev pub ms : List Member
   ms = of_row Bk ∷ of_row Ix ∷ rest_ms
@@ -89,14 +91,14 @@ module _ (X Y Z : RattleType) (g : alloc.Ghosts Z.Denot) where
 
   -- the map `d` with the values of `u`
   abbrev pub following : D → D → D
-  following d u = record { lists = revalued d.lists (items u); room = d.room }
+  following d u = record d { lists = revalued d.lists (items u) }
 
   -- an arena that has the lists of `d`, with the values of its own value
   abbrev pub Followed : D → SemTy
   Followed d = record { rep = D; coded = Ar.coded; size = 0; own_at = λ u bl o. (mem Ar).own_at (following d u) bl o }
 
   itself : (d : D) → following d d ≡ d
-  itself d = ap (λ ls. record { lists = ls; room = d.room }) (same-lists d.lists)
+  itself d = ap (λ ls. record d { lists = ls }) (same-lists d.lists)
 
   module _ (LX : Laws X) (LY : Laws Y) (LZ : Laws Z) {M : Type 1} {𝓤 : Ura M} (𝓛 : Logic 𝓤) (rb ro : ℕ) where
     open 𝓛 use {A as tokens}
@@ -109,7 +111,7 @@ module _ (X Y Z : RattleType) (g : alloc.Ghosts Z.Denot) where
       Index = part_at Ix full_share a.heads rb (ro + index_at)
 
       abbrev pub Others : Fml
-      Others = parts_at full_share rest_ms (index_at + size (lone Ix.mir)) (a.used, tt) rb ro
+      Others = parts_at full_share rest_ms (index_at + size (lone Ix.mir)) (a.used, (a.resizes, tt)) rb ro
 
       abbrev pub Gaps : SProp 𝓤
       Gaps = PartsBack 𝓛 full_share [] ms rb ro
@@ -118,9 +120,9 @@ module _ (X Y Z : RattleType) (g : alloc.Ghosts Z.Denot) where
       unfolding part_of
       takes_apart = field_out 𝓛 full_share [] ms (
         (block_laws.the_row_laws (Entry K V) A g (tuple_laws (K ∷ V ∷ []) (param_laws 0 X LX, (param_laws 1 Y LY, tt))) (param_laws 2 Z LZ)).lawful 𝓛,
-        (the_index_laws.lawful 𝓛, (uint_Lawful 𝓛 w64, tt)),
+        (the_index_laws.lawful 𝓛, (uint_Lawful 𝓛 w64, (counter_laws.the_row_laws.lawful 𝓛, tt))),
       )
-          (a.block, (a.heads, (a.used, tt))) rb ro 0
+          (a.block, (a.heads, (a.used, (a.resizes, tt)))) rb ro 0
 
       -- the arena with these values in its places
       module _ (d : D) (viewed : Viewed d a) where
@@ -128,11 +130,11 @@ module _ (X Y Z : RattleType) (g : alloc.Ghosts Z.Denot) where
         written ws = with_places a.block (with_values a.block.places ws)
 
         abbrev pub next : List Y.Denot → D
-        next ws = record { lists = map (list_of (with_values a.block.places ws)) (take a.used a.heads.items); room = length a.heads.items }
+        next ws = record { lists = map (list_of (with_values a.block.places ws)) (take a.used a.heads.items); room = length a.heads.items; resizes = a.resizes.count }
 
         fixed : (ws : List Y.Denot) → following d (next ws) ≡ next ws
-        fixed ws = ap (λ (z : D). record { lists = revalued z.lists (items (next ws)); room = z.room }) (sym viewed.0)
-            ∙ ap (λ ls. record { lists = ls; room = length a.heads.items }) (read-lists a.block.places ws (take a.used a.heads.items))
+        fixed ws = ap (λ (z : D). record z { lists = revalued z.lists (items (next ws)) }) (sym viewed.0)
+            ∙ ap (λ ls. record { lists = ls; room = length a.heads.items; resizes = a.resizes.count }) (read-lists a.block.places ws (take a.used a.heads.items))
 
         abbrev pub Whole : SemTy
         Whole = Followed d
@@ -140,9 +142,9 @@ module _ (X Y Z : RattleType) (g : alloc.Ghosts Z.Denot) where
         pub returns_whole : (ws : List Y.Denot) → ent 𝓤 (sep 𝓤 (sem 𝓛 (part_at Bk full_share (written ws) rb (ro + block_at))) (sep 𝓤 (sem 𝓛 (fsep Index Others)) Gaps)) (sem 𝓛 (Whole.own_at (next ws) rb ro))
         unfolding part_of
         returns_whole ws =
-            let n : In.Denot = record { block = written ws; heads = a.heads; used = a.used } in
+            let n : In.Denot = record { block = written ws; heads = a.heads; used = a.used; resizes = a.resizes } in
             qed 𝓛 (‵ (part_at Bk full_share (written ws) rb (ro + block_at)) ∷ ‵ (fsep Index Others) ∷ raw Gaps ∷ []) ∵
-            use3 𝓛 (‵ (part_at In full_share n rb ro)) (field_back 𝓛 full_share [] ms (written ws, (a.heads, (a.used, tt))) rb ro 0) $
+            use3 𝓛 (‵ (part_at In full_share n rb ro)) (field_back 𝓛 full_share [] ms (written ws, (a.heads, (a.used, (a.resizes, tt)))) rb ro 0) $
             use1 𝓛 (‵ ((mem Ar).own_at (next ws) rb ro)) (Plain-in Ar In (arena_laws.the_opens (Entry K V) A g) 𝓛 full_share (next ws) n
             (view_made In D Ar.coded (view (X.Denot × Y.Denot) Z.Denot g) (invariant (X.Denot × Y.Denot) Z.Denot g) 𝓛 (next ws) n (refl, stays a.block.places ws a.heads.items a.used viewed.1)) rb ro) $
             rewrite ! 0 (λ (u : D). ‵ ((mem Ar).own_at u rb ro)) (sym (fixed ws)) refl $ done !

@@ -121,14 +121,15 @@ module _ {T : Type 0} (cs ds : List (Option T)) (hs : List Head) (used : ℕ) (i
     pub arena-one : IsArena ds (set hs i (head h.leaf n)) used
     arena-one = edited is one
 
-    pub view-one : (F : List T → List T) → run ds (h.leaf * 64) n ≡ F (list_of cs h) → (v : LeavesView T) → record { lists = map (list_of cs) (take used hs); room = length hs } ≡ v
-        → record { lists = map (list_of ds) (take used (set hs i (head h.leaf n))); room = length (set hs i (head h.leaf n)) } ≡ with_list v i (F (get_or v.lists i []))
-    view-one F e v seen =
-        let w : LeavesView T = record { lists = map (list_of cs) (take used hs); room = length hs } in
+    pub view-one : {times : ℕ} → (F : List T → List T) → run ds (h.leaf * 64) n ≡ F (list_of cs h) → (v : LeavesView T) → record { lists = map (list_of cs) (take used hs); room = length hs; resizes = times } ≡ v
+        → record { lists = map (list_of ds) (take used (set hs i (head h.leaf n))); room = length (set hs i (head h.leaf n)); resizes = times } ≡ with_list v i (F (get_or v.lists i []))
+    view-one {times} F e v seen =
+        let w : LeavesView T = record { lists = map (list_of cs) (take used hs); room = length hs; resizes = times } in
         let there = seen-list cs hs used is i h read w refl [] (omega (arith, lt, count-lists cs hs used is)) in
         (λ j. record {
           lists = (edited_lists is one ∙ replaced-one w.lists i (run ds (h.leaf * 64) n) (omega (arith, lt, count-lists cs hs used is)) ∙ ap (set w.lists i) (e ∙ ap F (sym there))) j;
           room = length-set hs i (head h.leaf n) j;
+          resizes = times;
         }) ∙ ap (λ (u : LeavesView T). with_list u i (F (get_or u.lists i []))) seen
 
 -- two heads have two leaves
@@ -142,8 +143,8 @@ read-removed : (hs : List Head) (n i : ℕ) (d : Head) → i < n → n < length 
 read-removed hs n i d lt le = grind (arith, places)
 
 module _ {T : Type 0} (cs ds : List (Option T)) (hs : List Head) (used : ℕ) (is : IsArena cs hs used) where
-  abbrev old : LeavesView T
-  old = record { lists = map (list_of cs) (take used hs); room = length hs }
+  abbrev old : (times : ℕ) → LeavesView T
+  old times = record { lists = map (list_of cs) (take used hs); room = length hs; resizes = times }
 
   -- the lists of two heads change
   module _ (i : ℕ) (g h : Head) (read : g ≡ get_or hs i g) (read_next : h ≡ get_or hs (i + 1) h) (lt : i + 1 < used) (n m : ℕ) (room : length ds ≡ length cs)
@@ -174,15 +175,16 @@ module _ {T : Type 0} (cs ds : List (Option T)) (hs : List Head) (used : ℕ) (i
     pub arena-two : IsArena ds with_two used
     arena-two = edited is two
 
-    pub view-two : (P Q : List T → List T → List T) → run ds (g.leaf * 64) n ≡ P (list_of cs g) (list_of cs h) → run ds (h.leaf * 64) m ≡ Q (list_of cs g) (list_of cs h) → (v : LeavesView T) → old ≡ v
-        → record { lists = map (list_of ds) (take used with_two); room = length with_two } ≡ with_lists v (replaced v.lists i 2 (P (get_or v.lists i []) (get_or v.lists (i + 1) []) ∷ Q (get_or v.lists i []) (get_or v.lists (i + 1) []) ∷ []))
-    view-two P Q p q v seen =
+    pub view-two : {times : ℕ} → (P Q : List T → List T → List T) → run ds (g.leaf * 64) n ≡ P (list_of cs g) (list_of cs h) → run ds (h.leaf * 64) m ≡ Q (list_of cs g) (list_of cs h) → (v : LeavesView T) → old times ≡ v
+        → record { lists = map (list_of ds) (take used with_two); room = length with_two; resizes = times } ≡ with_lists v (replaced v.lists i 2 (P (get_or v.lists i []) (get_or v.lists (i + 1) []) ∷ Q (get_or v.lists i []) (get_or v.lists (i + 1) []) ∷ []))
+    view-two {times} P Q p q v seen =
         let count = count-lists cs hs used is in
-        let first = seen-list cs hs used is i g read old refl [] (omega (arith, lt, count)) in
-        let second = seen-list cs hs used is (i + 1) h read_next old refl [] (omega (arith, lt, count)) in
+        let first = seen-list cs hs used is i g read (old times) refl [] (omega (arith, lt, count)) in
+        let second = seen-list cs hs used is (i + 1) h read_next (old times) refl [] (omega (arith, lt, count)) in
         (λ j. record {
-          lists = (edited_lists is two ∙ (λ k. replaced old.lists i 2 ((p ∙ (λ l. P (sym first l) (sym second l))) k ∷ (q ∙ (λ l. Q (sym first l) (sym second l))) k ∷ []))) j;
+          lists = (edited_lists is two ∙ (λ k. replaced (old times).lists i 2 ((p ∙ (λ l. P (sym first l) (sym second l))) k ∷ (q ∙ (λ l. Q (sym first l) (sym second l))) k ∷ []))) j;
           room = long-two j;
+          resizes = times;
         }) ∙ ap (λ (u : LeavesView T). with_lists u (replaced u.lists i 2 (P (get_or u.lists i []) (get_or u.lists (i + 1) []) ∷ Q (get_or u.lists i []) (get_or u.lists (i + 1) []) ∷ []))) seen
 
   -- a list in the first free leaf
@@ -205,13 +207,14 @@ module _ {T : Type 0} (cs ds : List (Option T)) (hs : List Head) (used : ℕ) (i
     pub arena-next : IsArena ds with_next (used + 1)
     arena-next = edited is next
 
-    pub view-next : (x : T) → run ds (h.leaf * 64) 1 ≡ x ∷ [] → (v : LeavesView T) → old ≡ v
-        → record { lists = map (list_of ds) (take (used + 1) with_next); room = length with_next } ≡ with_lists v (v.lists ++ (x ∷ []) ∷ [])
-    view-next x e v seen =
+    pub view-next : {times : ℕ} → (x : T) → run ds (h.leaf * 64) 1 ≡ x ∷ [] → (v : LeavesView T) → old times ≡ v
+        → record { lists = map (list_of ds) (take (used + 1) with_next); room = length with_next; resizes = times } ≡ with_lists v (v.lists ++ (x ∷ []) ∷ [])
+    view-next {times} x e v seen =
         let count = count-lists cs hs used is in
         (λ j. record {
-          lists = (edited_lists is next ∙ (λ k. take_all used old.lists (omega (arith, count)) k ++ (e k ∷ drop_all (used + 0) old.lists (omega (arith, count)) k))) j;
+          lists = (edited_lists is next ∙ (λ k. take_all used (old times).lists (omega (arith, count)) k ++ (e k ∷ drop_all (used + 0) (old times).lists (omega (arith, count)) k))) j;
           room = length-set hs used (head h.leaf 1) j;
+          resizes = times;
         }) ∙ ap (λ (u : LeavesView T). with_lists u (u.lists ++ (x ∷ []) ∷ [])) seen
 
   -- a list that is split, with its second part in the first free leaf
@@ -251,13 +254,14 @@ module _ {T : Type 0} (cs ds : List (Option T)) (hs : List Head) (used : ℕ) (i
     pub arena-part : IsArena ds with_part (used + 1)
     arena-part = edited is part
 
-    pub view-part : (P Q : List T → List T) → run ds (g.leaf * 64) n ≡ P (list_of cs g) → run ds (h.leaf * 64) m ≡ Q (list_of cs g) → (v : LeavesView T) → old ≡ v
-        → record { lists = map (list_of ds) (take (used + 1) with_part); room = length with_part } ≡ with_lists v (replaced v.lists i 1 (P (get_or v.lists i []) ∷ Q (get_or v.lists i []) ∷ []))
-    view-part P Q p q v seen =
-        let first = seen-list cs hs used is i g read old refl [] (omega (arith, lt, count-lists cs hs used is)) in
+    pub view-part : {times : ℕ} → (P Q : List T → List T) → run ds (g.leaf * 64) n ≡ P (list_of cs g) → run ds (h.leaf * 64) m ≡ Q (list_of cs g) → (v : LeavesView T) → old times ≡ v
+        → record { lists = map (list_of ds) (take (used + 1) with_part); room = length with_part; resizes = times } ≡ with_lists v (replaced v.lists i 1 (P (get_or v.lists i []) ∷ Q (get_or v.lists i []) ∷ []))
+    view-part {times} P Q p q v seen =
+        let first = seen-list cs hs used is i g read (old times) refl [] (omega (arith, lt, count-lists cs hs used is)) in
         (λ j. record {
-          lists = (edited_lists is part ∙ (λ k. replaced old.lists i 1 ((p ∙ ap P (sym first)) k ∷ (q ∙ ap Q (sym first)) k ∷ []))) j;
+          lists = (edited_lists is part ∙ (λ k. replaced (old times).lists i 1 ((p ∙ ap P (sym first)) k ∷ (q ∙ ap Q (sym first)) k ∷ []))) j;
           room = long-part j;
+          resizes = times;
         }) ∙ ap (λ (u : LeavesView T). with_lists u (replaced u.lists i 1 (P (get_or u.lists i []) ∷ Q (get_or u.lists i []) ∷ []))) seen
 
 -- a list that is removed
@@ -288,9 +292,9 @@ module _ {T : Type 0} (cs : List (Option T)) (hs : List Head) (used : ℕ) (is :
   pub arena-freed : IsArena cs with_freed (used - 1)
   arena-freed = edited is freed
 
-  pub view-freed : (v : LeavesView T) → record { lists = map (list_of cs) (take used hs); room = length hs } ≡ v
-      → record { lists = map (list_of cs) (take (used - 1) with_freed); room = length with_freed } ≡ with_lists v (replaced v.lists i 1 [])
-  view-freed v seen = (λ j. record { lists = edited_lists is freed j; room = long-freed j }) ∙ ap (λ (u : LeavesView T). with_lists u (replaced u.lists i 1 [])) seen
+  pub view-freed : {times : ℕ} → (v : LeavesView T) → record { lists = map (list_of cs) (take used hs); room = length hs; resizes = times } ≡ v
+      → record { lists = map (list_of cs) (take (used - 1) with_freed); room = length with_freed; resizes = times } ≡ with_lists v (replaced v.lists i 1 [])
+  view-freed {times} v seen = (λ j. record { lists = edited_lists is freed j; room = long-freed j; resizes = times }) ∙ ap (λ (u : LeavesView T). with_lists u (replaced u.lists i 1 [])) seen
 
 -- a value alone in a leaf
 module _ {T : Type 0} (cs : List (Option T)) (leaf : ℕ) (x : T) (room : (leaf + 1) * 64 ≤ length cs) where
@@ -342,9 +346,9 @@ module _ {T : Type 0} (cs : List (Option T)) (hs : List Head) (used : ℕ) (is :
   pub arena-lent : IsArena lent hs used
   arena-lent = subst (λ gs. IsArena lent gs used) (same-heads hs i h read) (arena-one cs lent hs used is i h read f h.len keeps-lent small (IsRun-written cs h.leaf h.len at places filled within small w))
 
-  pub view-lent : (v : LeavesView T) → record { lists = map (list_of cs) (take used hs); room = length hs } ≡ v
-      → record { lists = map (list_of lent) (take used hs); room = length hs } ≡ with_list v i (set (get_or v.lists i []) at w)
-  view-lent v seen = subst (λ gs. record { lists = map (list_of lent) (take used gs); room = length gs } ≡ with_list v i (set (get_or v.lists i []) at w)) (same-heads hs i h read)
+  pub view-lent : {times : ℕ} → (v : LeavesView T) → record { lists = map (list_of cs) (take used hs); room = length hs; resizes = times } ≡ v
+      → record { lists = map (list_of lent) (take used hs); room = length hs; resizes = times } ≡ with_list v i (set (get_or v.lists i []) at w)
+  view-lent {times} v seen = subst (λ gs. record { lists = map (list_of lent) (take used gs); room = length gs; resizes = times } ≡ with_list v i (set (get_or v.lists i []) at w)) (same-heads hs i h read)
       (view-one cs lent hs used is i h read f h.len keeps-lent small (IsRun-written cs h.leaf h.len at places filled within small w) (λ xs. set xs at w) (run-written cs h.leaf h.len at places filled within small w) v seen)
 
 -- two lists of which the second was emptied

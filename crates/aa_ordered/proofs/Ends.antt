@@ -48,22 +48,25 @@ module _ {K V : Type 0} (cmp : K → K → Ordering) (leaves new : LeavesView (K
     ordered = rw q (ordered-removed cmp (joined leaves.lists) p m.ordered);
   }
 
-  module _ (v : OrderedView K V) (is : view_of leaves ≡ v) (o : new.room ≡ leaves.room) where
+  module _ (v : OrderedView K V) (is : view_of leaves ≡ v) (o : new.room ≡ leaves.room) (n : new.resizes ≡ leaves.resizes) where
     same-capacity : capacity_of new.room ≡ v.capacity
     same-capacity = ap capacity_of o ∙ ap (λ (u : OrderedView K V). u.capacity) is
 
-    pub cut-first : p ≡ 0 → view_of new ≡ record { entries = drop 1 v.entries; capacity = v.capacity }
+    same-resizes : new.resizes ≡ v.resizes
+    same-resizes = n ∙ ap (λ (u : OrderedView K V). u.resizes) is
+
+    pub cut-first : p ≡ 0 → view_of new ≡ record v { entries = drop 1 v.entries }
     cut-first z =
         let es = rw z at q ∙ ap (λ (u : OrderedView K V). drop 1 u.entries) is in
-        λ i. record { entries = es i; capacity = same-capacity i }
+        λ i. record { entries = es i; capacity = same-capacity i; resizes = same-resizes i }
 
-    pub cut-last : p + 1 ≡ length (joined leaves.lists) → view_of new ≡ record { entries = take (length v.entries - 1) v.entries; capacity = v.capacity }
+    pub cut-last : p + 1 ≡ length (joined leaves.lists) → view_of new ≡ record v { entries = take (length v.entries - 1) v.entries }
     cut-last z =
         let none = drop_all (suc p) (joined leaves.lists) (omega (arith, z)) in
         let e : p ≡ length (joined leaves.lists) - 1 = omega (arith, z) in
-        let es = q ∙ ap (λ zs. take p (joined leaves.lists) ++ zs) none ∙ append-nil (take p (joined leaves.lists)) ∙ ap (λ n. take n (joined leaves.lists)) e
+        let es = q ∙ ap (λ zs. take p (joined leaves.lists) ++ zs) none ∙ append-nil (take p (joined leaves.lists)) ∙ ap (λ m. take m (joined leaves.lists)) e
         ∙ ap (λ (u : OrderedView K V). take (length u.entries - 1) u.entries) is in
-        λ i. record { entries = es i; capacity = same-capacity i }
+        λ i. record { entries = es i; capacity = same-capacity i; resizes = same-resizes i }
 
 -- the last entry of the view
 pub last-get : {K V : Type 0} (leaves : LeavesView (K × V)) (v : OrderedView K V) (is : view_of leaves ≡ v) (p : ℕ) → p + 1 ≡ length (joined leaves.lists) → slice_get (joined leaves.lists) p ≡ slice_get v.entries (length v.entries - 1)

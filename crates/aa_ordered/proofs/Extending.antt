@@ -8,8 +8,10 @@ use Rattle.std.specs.Map.{keys_of}
 use Rattle.std.specs.Ordering.{match_ordering, ordering_reverse}
 use Rattle.std.specs.declared.cmp.Ordering.{Ordering}
 use Rattle.std.specs.declared.cmp.Ordering.TheVariants.{Less, Equal, Greater}
+use Rattle.aa_ordered.specs.Capacity.{resizes_to}
 use Rattle.aa_ordered.specs.Entries.{OrderedView}
-use Rattle.aa_ordered.specs.Iterating.{insert_all, HasCapacity}
+use Rattle.aa_ordered.specs.Iterating.{insert_all, HasCapacity, InsertsAll}
+use Rattle.aa_ordered.proofs.Resizing.{kept}
 
 module _ {K V : Type 0} (cmp : K → K → Ordering) where
   -- one more of them
@@ -30,6 +32,20 @@ module _ {K V : Type 0} (cmp : K → K → Ordering) where
   -- if m items fit, one fits and then n, which are fewer
   pub fits-after : (k : K) (v : V) (u w : OrderedView K V) (m n : ℕ) → n < m → HasCapacity u m → w.entries ≡ insert_entry cmp u.entries k v → w.capacity ≡ u.capacity → HasCapacity w n
   fits-after k v u w m n fewer room is same = omega (arith, fewer, room, same, ap length is, insert-fewer u.entries k v)
+
+-- a map whose capacity did not change moved to no other blocks
+pub stays-as : {K V : Type 0} (m n : OrderedView K V) → n.capacity ≡ m.capacity → n.resizes ≡ resizes_to m n.capacity → n.resizes ≡ m.resizes
+stays-as m n same moved = moved ∙ ap (resizes_to m) same ∙ kept m
+
+module _ {K V : Type 0} (cmp : K → K → Ordering) where
+  -- one more item
+  pub insert-more : (m u w : OrderedView K V) (xs : List (K × V)) (x : K × V) → InsertsAll cmp m xs u → w.entries ≡ insert_entry cmp u.entries x.0 x.1 → u.capacity ≤ w.capacity → w.resizes ≡ resizes_to u w.capacity
+      → InsertsAll cmp m (xs ++ x ∷ []) w
+  insert-more m u w xs x a is grown moved = record {
+    entries = is ∙ ap (λ es. insert_entry cmp es x.0 x.1) a.entries ∙ sym (insert_all-push cmp m.entries xs x);
+    capacity = omega (arith, grown, a.capacity);
+    resizes = λ same. stays-as u w (omega (arith, same, grown, a.capacity)) moved ∙ a.resizes (omega (arith, same, grown, a.capacity));
+  }
 
 turned : {K : Type 0} {cmp : K → K → Ordering} (o : IsTotalOrder cmp) (j k : K) → cmp j k ≡ Less → cmp k j ≡ Greater
 turned o j k l = o.antisymm k j ∙ ap ordering_reverse l

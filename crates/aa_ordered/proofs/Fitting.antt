@@ -1,16 +1,17 @@
 -- The capacity of a map whose free leaves are freed.
-use Rattle.std.proofs.Common.{◌≡◌, ◌+◌, ◌*◌, ◌≤◌, ◌<◌, ℕ, [], All, Result, Ok, Err, inl, inr, arith, length, sym, ap, subst, true≢false}
-use Rattle.std.specs.Prelude.{max, min, IfErr, IsOk}
+use Rattle.std.proofs.Common.{◌≡◌, ◌+◌, ◌*◌, ◌≤◌, ◌<◌, ℕ, [], All, Result, Ok, Err, inl, inr, refl, arith, length, sym, ap, subst, ◌∙◌, true≢false}
+use Rattle.std.specs.Prelude.{max, min, IfErr, IsOk, OnErr, OnOk}
 use Rattle.std.proofs.lemmas.Bool.{cases_lt}
 use Rattle.std.proofs.lemmas.Bool.Decides.{nat_tests}
 use Rattle.allocator_api2.specs.declared.collections.TryReserveError.{TryReserveError}
 use Rattle.allocator_api2.specs.declared.collections.TryReserveErrorKind.TheVariants.{AllocError}
 use Rattle.aa_ordered.specs.Balance.{joined, lengths, IsBalanced}
-use Rattle.aa_ordered.specs.Capacity.{capacity_of, leaves_of, IsAllocErrorWithin}
+use Rattle.aa_ordered.specs.Capacity.{capacity_of, leaves_of, resizes_to, IsAllocErrorWithin}
 use Rattle.aa_ordered.specs.Entries.{OrderedView}
 use Rattle.aa_ordered.specs.Inside.{view_of}
-use Rattle.aa_ordered.specs.Leaves.{LeavesView}
+use Rattle.aa_ordered.specs.Leaves.{resizes_to as leaves_to, with_room, LeavesView}
 use Rattle.aa_ordered.proofs.Balance.{at-least, at-most}
+use Rattle.aa_ordered.proofs.Resizing.{leaves-kept, moved-to}
 
 leaves-same : (r : ℕ) → leaves_of (capacity_of r) ≡ r
 leaves-same r = grind (arith, nat_tests)
@@ -33,7 +34,7 @@ module _ {K V : Type 0} (leaves : LeavesView (K × V)) (v : OrderedView K V) (is
     few : 32 * length leaves.lists ≤ length v.entries + 31
     few = omega (arith, count, at-least leaves.lists b)
 
-    module _ (new : LeavesView (K × V)) (e : new ≡ record { lists = leaves.lists; room = min leaves.room (max 0 (length leaves.lists)) }) where
+    module _ (new : LeavesView (K × V)) (e : new ≡ with_room leaves (min leaves.room (max 0 (length leaves.lists)))) where
       within : new.room ≤ length leaves.lists
       within = let r = ap (λ (u : LeavesView (K × V)). u.room) e in omega (arith, r)
 
@@ -55,3 +56,11 @@ module _ {K V : Type 0} (leaves : LeavesView (K × V)) (v : OrderedView K V) (is
       number-less (Err e) o h =
           let less : length leaves.lists < leaves.room = elim (cases_lt (length leaves.lists) leaves.room) [ inl l ↦ l | inr g ↦ absurd (true≢false (sym (o (omega (arith, g))))) ] in
           number-within (leaves_of v.capacity * 64) (omega (arith, less, room)) e h
+
+  -- the map moved to new blocks if it has another capacity
+  pub shrunk-resizes : (new : LeavesView (K × V)) (n : ℕ) (r : Result (Unit {0}) TryReserveError) → OnOk r (new ≡ with_room leaves n) → OnErr r (new ≡ leaves) → new.resizes ≡ resizes_to v (capacity_of new.room)
+  shrunk-resizes new n r o e = subst (λ (u : OrderedView K V). new.resizes ≡ resizes_to u (capacity_of new.room)) is (by n r o e ∙ moved-to leaves new.room)
+    where
+      by : (n : ℕ) (r : Result (Unit {0}) TryReserveError) → OnOk r (new ≡ with_room leaves n) → OnErr r (new ≡ leaves) → new.resizes ≡ leaves_to leaves new.room
+      by n (Ok x) o e = rw o refl
+      by n (Err x) o e = rw e (sym (leaves-kept leaves))

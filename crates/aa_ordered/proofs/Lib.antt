@@ -3,6 +3,7 @@ pub mod Order
 pub mod Stepping
 pub mod Found
 pub mod Balance
+pub mod Resizing
 pub mod Fitting
 pub mod Flat
 pub mod Placing

@@ -81,14 +81,14 @@ module _ (X Y Z : RattleType) (co : ord.Ghosts X.Denot) (ce : eq.Ghosts X.Denot)
 
   -- the map `d` with the values of `u`
   abbrev pub following : D → D → D
-  following d u = record { entries = with_values_of d.entries u.entries; capacity = d.capacity }
+  following d u = record d { entries = with_values_of d.entries u.entries }
 
   -- a map that has the keys of `d`, with the values of its own value
   abbrev pub Followed : D → SemTy
   Followed d = record { rep = D; coded = Mp.coded; size = 0; own_at = λ u bl o. (mem Mp).own_at (following d u) bl o }
 
   itself : (d : D) → following d d ≡ d
-  itself d = ap (λ es. record { entries = es; capacity = d.capacity }) (same d.entries)
+  itself d = ap (λ es. record d { entries = es }) (same d.entries)
 
   module _ (LX : Laws X) (LY : Laws Y) (LZ : Laws Z) {M : Type 1} {𝓤 : Ura M} (𝓛 : Logic 𝓤) (rb ro : ℕ) where
     open 𝓛 use {A as tokens}
@@ -133,8 +133,8 @@ module _ (X Y Z : RattleType) (co : ord.Ghosts X.Denot) (ce : eq.Ghosts X.Denot)
       next ws = view X.Denot Y.Denot Z.Denot co ce cp g (record { leaves = arena_with ws; len = m.len })
 
       fixed : (ws : List Y.Denot) → following d (next ws) ≡ next ws
-      fixed ws = ap (λ (z : D). record { entries = with_values_of z.entries (next ws).entries; capacity = z.capacity }) (sym x.1.0)
-          ∙ ap (λ es. record { entries = es; capacity = (next ws).capacity }) (read-map m.leaves.lists (items (arena_next X Y Z g LX LY LZ 𝓛 rb ao a m.leaves x.2.1 ws)))
+      fixed ws = ap (λ (z : D). record z { entries = with_values_of z.entries (next ws).entries }) (sym x.1.0)
+          ∙ ap (λ es. record { entries = es; capacity = (next ws).capacity; resizes = (next ws).resizes }) (read-map m.leaves.lists (items (arena_next X Y Z g LX LY LZ 𝓛 rb ao a m.leaves x.2.1 ws)))
 
       abbrev pub Whole : SemTy
       Whole = Followed d

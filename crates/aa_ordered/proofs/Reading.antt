@@ -57,8 +57,8 @@ module _ {K V : Type 0} (cmp : K → K → Ordering) (leaves : LeavesView (K × 
   }
 
   module _ (k : K) (f : IsFound cmp (joined leaves.lists) k (position leaves.lists i at)) where
-    pub written-view : view_of (with_list leaves i (slice_set (list_at leaves i) at (e.0, w))) ≡ record { entries = with_value cmp (joined leaves.lists) k w; capacity = capacity_of leaves.room }
-    written-view = ap (λ es. record { entries = es; capacity = capacity_of leaves.room }) (written-joined ∙ sym (found-written cmp k (joined leaves.lists) (position leaves.lists i at) e w f))
+    pub written-view : view_of (with_list leaves i (slice_set (list_at leaves i) at (e.0, w))) ≡ record { entries = with_value cmp (joined leaves.lists) k w; capacity = capacity_of leaves.room; resizes = leaves.resizes }
+    written-view = ap (λ es. record { entries = es; capacity = capacity_of leaves.room; resizes = leaves.resizes }) (written-joined ∙ sym (found-written cmp k (joined leaves.lists) (position leaves.lists i at) e w f))
 
     pub written-inserted : joined (slice_set leaves.lists i (slice_set (list_at leaves i) at (e.0, w))) ≡ insert_entry cmp (joined leaves.lists) k w
     written-inserted = written-joined ∙ sym (found-inserted cmp k (joined leaves.lists) (position leaves.lists i at) e w f)

@@ -139,7 +139,7 @@ module _ {K V : Type 0} where
     }
 
 -- what the lists of an arena say of its heads
-module _ {T : Type 0} {cs : List (Option T)} {hs : List Head} {used : ℕ} (a : IsArena cs hs used) (d : LeavesView T) (is : record { lists = map (list_of cs) (take used hs); room = length hs } ≡ d) where
+module _ {T : Type 0} {cs : List (Option T)} {hs : List Head} {used times : ℕ} (a : IsArena cs hs used) (d : LeavesView T) (is : record { lists = map (list_of cs) (take used hs); room = length hs; resizes = times } ≡ d) where
   lists-are : map (list_of cs) (take used hs) ≡ d.lists
   lists-are = ap (λ (v : LeavesView T). v.lists) is
 
@@ -162,7 +162,7 @@ module _ {K V : Type 0} where
   pub read-map : (ls : List (List (K × V))) (fs : List (K × V)) → with_values_of (items_of ls) (items_of (revalued ls fs)) ≡ items_of (revalued ls fs)
   read-map ls fs = rw (items-revalued ls fs) (again (items_of ls) fs)
 
-  pub stays-map : {cmp : K → K → Ordering} {m : LeavesView (K × V)} {len : ℕ} → IsMap cmp m len → (fs : List (K × V)) → IsMap cmp (record { lists = revalued m.lists fs; room = m.room }) len
+  pub stays-map : {cmp : K → K → Ordering} {m : LeavesView (K × V)} {len : ℕ} → IsMap cmp m len → (fs : List (K × V)) → IsMap cmp (record m { lists = revalued m.lists fs }) len
   stays-map {cmp} {m} {len} is fs = record {
     count = is.count ∙ sym (ap length (items-revalued m.lists fs) ∙ length-kept (items_of m.lists) fs);
     balanced = subst IsBalanced (sym (lengths-revalued m.lists fs)) is.balanced;

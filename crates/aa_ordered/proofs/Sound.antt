@@ -15,8 +15,8 @@ use Rattle.aa_ordered.proofs.Found.{found-entry, found-without, gap-entry, gap-i
 use Rattle.aa_ordered.proofs.Order.{ordered-empty}
 use Rattle.aa_ordered.proofs.Reading.{got}
 
-pub no-entries : {K V : Type 0} (cmp : K → K → Ordering) (room : ℕ) → IsMap {K = K} {V = V} cmp (record { lists = []; room = room }) 0
-no-entries cmp room = record { count = refl; balanced = tt; ordered = ordered-empty cmp }
+pub no-entries : {K V : Type 0} (cmp : K → K → Ordering) (room resizes : ℕ) → IsMap {K = K} {V = V} cmp (record { lists = []; room = room; resizes = resizes }) 0
+no-entries cmp room resizes = record { count = refl; balanced = tt; ordered = ordered-empty cmp }
 
 pub value-of-entry : {K V : Type 0} (cmp : K → K → Ordering) (es : List (K × V)) (k : K) → option_map (λ e. e.1) (entry_of cmp es k) ≡ value cmp es k
 value-of-entry cmp [] k = refl
@@ -34,8 +34,8 @@ module _ {K V : Type 0} (cmp : K → K → Ordering) (k : K) (leaves : LeavesVie
     pub absent-never : {P : Type 0} → is_some (value cmp v.entries k) ≡ true → P
     absent-never t = absurd (true≢false (sym t ∙ ap is_some absent-value))
 
-    pub absent-without : v ≡ record { entries = without cmp v.entries k; capacity = v.capacity }
-    absent-without = subst (λ (u : OrderedView K V). u ≡ record { entries = without cmp u.entries k; capacity = u.capacity }) is (ap (λ es. record { entries = es; capacity = capacity_of leaves.room }) (sym (gap-without cmp k (joined leaves.lists) p f)))
+    pub absent-without : v ≡ record v { entries = without cmp v.entries k }
+    absent-without = subst (λ (u : OrderedView K V). u ≡ record u { entries = without cmp u.entries k }) is (ap (λ es. record { entries = es; capacity = capacity_of leaves.room; resizes = leaves.resizes }) (sym (gap-without cmp k (joined leaves.lists) p f)))
 
     pub absent-inserted : (x : V) → insert (joined leaves.lists) p (k, x) ≡ insert_entry cmp v.entries k x
     absent-inserted x = sym (gap-inserted cmp k (joined leaves.lists) p x f) ∙ ap (λ (u : OrderedView K V). insert_entry cmp u.entries k x) is
@@ -62,11 +62,12 @@ module _ {K V : Type 0} (cmp : K → K → Ordering) (k : K) (leaves : LeavesVie
         ∙ ap (λ (u : OrderedView K V). entry_of cmp u.entries k) is
 
     module _ (new : LeavesView (K × V)) (q : joined new.lists ≡ remove (joined leaves.lists) p) where
-      pub present-without : new.room ≡ leaves.room → view_of new ≡ record { entries = without cmp v.entries k; capacity = v.capacity }
-      present-without o =
+      pub present-without : new.room ≡ leaves.room → new.resizes ≡ leaves.resizes → view_of new ≡ record v { entries = without cmp v.entries k }
+      present-without o n =
           let es = q ∙ sym (found-without cmp k (joined leaves.lists) p f) ∙ ap (λ (u : OrderedView K V). without cmp u.entries k) is in
           let c = ap capacity_of o ∙ ap (λ (u : OrderedView K V). u.capacity) is in
-          λ i. record { entries = es i; capacity = c i }
+          let t = n ∙ ap (λ (u : OrderedView K V). u.resizes) is in
+          λ i. record { entries = es i; capacity = c i; resizes = t i }
 
       pub removed-map : (len : ℕ) → IsMap cmp leaves len → IsBalanced (lengths new.lists) → IsMap cmp new (len - 1)
       removed-map len m b = record {

@@ -44,6 +44,7 @@ module _ {K V : Type 0} (cmp : K → K → Ordering) (total : IsTotalOrder cmp) 
         entries = i.entries ∙ inserted-twice m.entries k x v;
         capacity = λ f. i.capacity (omega (arith, f, long));
         grown = i.grown;
+        resizes = i.resizes;
       }
 
 -- what holds of a value that is there

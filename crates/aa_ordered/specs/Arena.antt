@@ -46,12 +46,14 @@ module _ {T : Type 0} where
     pub held : All (IsHeld cs) (take used hs)
 
 module _ {T A : Type 0} where
-  -- the view of the arena `a`: the lists of its first heads, and the number of its heads
+  -- the view of the arena `a`: the lists of its first heads, the number of its heads, and that of
+  -- its resizes
   abbrev pub view_of : Inside T A → LeavesView T
   view_of a =
       record {
         lists = map (list_of a.block.places) (take a.used a.heads.items);
         room = length a.heads.items;
+        resizes = a.resizes.count;
       }
 
   -- the invariant of the arena `a`

@@ -1,5 +1,5 @@
 -- The capacity of an ordered map, and the allocations that it requests.
-use Rattle.std.specs.Prelude.{◌≡◌, ℕ, ◌+◌, ◌-◌, ◌*◌, ◌/◌, ◌%◌, ◌<◌, ◌≤◌, ◌==◌, if◌then◌else◌, length, max, nat_le}
+use Rattle.std.specs.Prelude.{◌≡◌, ℕ, ◌+◌, ◌-◌, ◌*◌, ◌/◌, ◌%◌, ◌<◌, ◌≤◌, ◌==◌, ◌||◌, if◌then◌else◌, length, max, nat_le}
 use Rattle.allocator_api2.specs.declared.collections.TryReserveError.{TryReserveError}
 use Rattle.allocator_api2.specs.declared.collections.TryReserveErrorKind.TheVariants.{CapacityOverflow, AllocError}
 use Rattle.aa_ordered.specs.Entries.{OrderedView}
@@ -7,6 +7,10 @@ use Rattle.aa_ordered.specs.Entries.{OrderedView}
 -- the number of entries that a map with `leaves` leaves can always hold
 abbrev pub capacity_of : (leaves : ℕ) → ℕ
 capacity_of leaves = if leaves == 0 then 0 else (leaves + 1) * 32
+
+-- the number of resizes of a new map with capacity for `n` entries
+abbrev pub fresh_resizes : (n : ℕ) → ℕ
+fresh_resizes n = if n == 0 then 0 else 1
 
 -- the number of leaves of a map with this capacity
 abbrev pub leaves_of : (capacity : ℕ) → ℕ
@@ -38,3 +42,13 @@ module _ {K V : Type 0} where
   reserved_capacity m k =
       if nat_le (length m.entries + k) m.capacity then m.capacity
       else capacity_of (requested_leaves m k)
+
+  -- the number of resizes of the map `m` after a reserve of `k` more entries
+  abbrev pub reserved_resizes : OrderedView K V → (k : ℕ) → ℕ
+  reserved_resizes m k =
+      if nat_le (length m.entries + k) m.capacity then m.resizes else m.resizes + 1
+
+  -- the number of resizes of the map `m` once its capacity is `c`: one more, unless it was `c` before,
+  -- or `c` is 0 and all blocks were freed
+  abbrev pub resizes_to : OrderedView K V → (c : ℕ) → ℕ
+  resizes_to m c = if (c == 0) || (c == m.capacity) then m.resizes else m.resizes + 1

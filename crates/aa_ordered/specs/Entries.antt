@@ -1,16 +1,21 @@
 -- The entries of an ordered map: keys with their values, in the order of the keys.
-use Rattle.std.specs.Prelude.{◌≡◌, ℕ, ◌<◌, ◌≤◌, List, length, take, drop, All, Option, slice_index_or}
+use Rattle.std.specs.Prelude.{◌≡◌, ℕ, ◌<◌, ◌≤◌, List, [], length, take, drop, All, Option, slice_index_or}
 use Rattle.std.specs.declared.cmp.Ordering.{Ordering}
 use Rattle.std.specs.declared.cmp.Ordering.TheVariants.{Less, Equal, Greater}
 use Rattle.std.specs.Map.{keys_of, lookup, lookup_entry, remove_entry, set_value}
 use Rattle.std.specs.BTreeMap.{is_at}
 use Rattle.core.specs.List.Sorted.{IsStrictlySortedBy}
 
--- the view of an ordered map: its entries in the order of the keys, and the number of entries that
--- it can always hold without another allocation
+-- the view of an ordered map: its entries in the order of the keys, the number of entries that it
+-- can always hold without another allocation, and the number of times that it moved to new blocks
 pub record OrderedView (K V : Type 0) : Type 0 where
   pub entries : List (K × V)
   pub capacity : ℕ
+  pub resizes : ℕ  -- each time to two: of the leaves and of their heads
+
+-- an empty map, which has not allocated
+abbrev pub empty : {K V : Type 0} → OrderedView K V
+empty = record { entries = []; capacity = 0; resizes = 0 }
 
 module _ {K V : Type 0} (cmp : K → K → Ordering) where
   -- each key of the entries `es` is less than those after it

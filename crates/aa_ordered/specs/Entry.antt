@@ -44,12 +44,12 @@ module _ {K V A : Type 0} {o : ord.Ghosts K} {e : eq.Ghosts K} {p : partial.Ghos
 -- the map `m` with the value `v` for the key `k`, which it has
 abbrev pub writes : {K V : Type 0} (cmp : K → K → Ordering) → OrderedView K V → K → V
     → OrderedView K V
-writes cmp m k v = record { entries = insert_entry cmp m.entries k v; capacity = m.capacity }
+writes cmp m k v = record m { entries = insert_entry cmp m.entries k v }
 
 -- the map `m` without the key `k`
 abbrev pub removes : {K V : Type 0} (cmp : K → K → Ordering) → OrderedView K V → K
     → OrderedView K V
-removes cmp m k = record { entries = without cmp m.entries k; capacity = m.capacity }
+removes cmp m k = record m { entries = without cmp m.entries k }
 
 module _ (K V A : RattleType) {o : ord.Ghosts K.Denot} {e : eq.Ghosts K.Denot}
     {p : partial.Ghosts K.Denot} (a : alloc.Ghosts A.Denot) where

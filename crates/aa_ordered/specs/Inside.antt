@@ -7,9 +7,14 @@ use Rattle.aa_ordered.specs.Entries.{OrderedView, IsOrdered}
 use Rattle.aa_ordered.specs.Leaves.{LeavesView}
 
 module _ {K V : Type 0} where
-  -- the view of a map with these leaves: the entries of all lists, and the capacity
+  -- the view of a map with these leaves: the entries of all lists, the capacity, and the resizes
   abbrev pub view_of : LeavesView (K × V) → OrderedView K V
-  view_of leaves = record { entries = joined leaves.lists; capacity = capacity_of leaves.room }
+  view_of leaves =
+      record {
+        entries = joined leaves.lists;
+        capacity = capacity_of leaves.room;
+        resizes = leaves.resizes;
+      }
 
   -- the leaves of a map of `len` entries: they are balanced, and their entries are in order
   pub record IsMap (cmp : K → K → Ordering) (leaves : LeavesView (K × V)) (len : ℕ) : Type 0 where

@@ -24,7 +24,4 @@ abbrev pub lends_values : (K V A : RattleType) (g : OfKeys K.Denot) (a : alloc.G
     → MutBor (OrderedView K.Denot V.Denot) → GName → Fml
 lends_values K V A g a m n =
     follows (map_row K V A g a) (map_row K V A g a) m.ghost_name n
-    (λ u. record {
-      entries = with_values_of m.now.entries u.entries;
-      capacity = m.now.capacity;
-    })
+    (λ u. record m.now { entries = with_values_of m.now.entries u.entries })

@@ -3,6 +3,7 @@ use Rattle.std.specs.Prelude.{◌≡◌, ℕ, ◌+◌, ◌≤◌, List, [], ◌�
 use Rattle.std.specs.BTreeMap.{insert_entry}
 use Rattle.std.specs.List.{AllZip}
 use Rattle.std.specs.declared.cmp.Ordering.{Ordering}
+use Rattle.aa_ordered.specs.Capacity.{fresh_resizes}
 use Rattle.aa_ordered.specs.Entries.{OrderedView, IsOrdered}
 
 module _ {K V : Type 0} where
@@ -17,15 +18,20 @@ module _ {K V : Type 0} (cmp : K → K → Ordering) where
   insert_all es [] = es
   insert_all es (x ∷ xs) = insert_all (insert_entry cmp es x.0 x.1) xs
 
-  -- the map `n` has the entries of `m` after each pair of `xs` was inserted in turn
-  abbrev pub InsertsAll : OrderedView K V → List (K × V) → OrderedView K V → Type 0
-  InsertsAll m xs n = n.entries ≡ insert_all m.entries xs
+  -- the map `n` has the entries of `m` after each pair of `xs` was inserted in turn, no less
+  -- capacity, and as many resizes if it has no more capacity
+  pub record InsertsAll (m : OrderedView K V) (xs : List (K × V)) (n : OrderedView K V)
+      : Type 0 where
+    pub entries : n.entries ≡ insert_all m.entries xs
+    pub capacity : m.capacity ≤ n.capacity
+    pub resizes : n.capacity ≡ m.capacity → n.resizes ≡ m.resizes
 
-  -- the map `n` has clones of the entries of `m`, inserted in turn, where `C` and `D` relate a key
-  -- and a value to its clone
+  -- the map `n` has clones of the entries of `m`, inserted in turn, and the resizes of a new map for
+  -- as many, where `C` and `D` relate a key and a value to its clone
   pub record IsCopy (C : K → K → Type 0) (D : V → V → Type 0) (m n : OrderedView K V)
       : Type 0 where
     pub clones : List (K × V)
     pub each : AllZip (λ e f. C e.0 f.0 × D e.1 f.1) m.entries clones
     pub entries : n.entries ≡ insert_all [] clones
     pub same : IsOrdered cmp clones → n.entries ≡ clones
+    pub resizes : n.resizes ≡ fresh_resizes (length m.entries)

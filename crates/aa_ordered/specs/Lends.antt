@@ -24,11 +24,11 @@ abbrev pub lends_value : (K V A : RattleType) (g : OfKeys K.Denot) (a : alloc.Gh
     → MutBor (OrderedView K.Denot V.Denot) → K.Denot → Option (MutBor V.Denot) → Fml
 lends_value K V A g a m k r =
     LendsIf (map_row K V A g a) V m r
-    (λ x. record { entries = with_value g.cmp m.now.entries k x; capacity = m.now.capacity }) m.now
+    (λ x. record m.now { entries = with_value g.cmp m.now.entries k x }) m.now
 
 -- the final state of the map `m`: `k`, which is present, has the last value written through `r`
 abbrev pub lends_there : (K V A : RattleType) (g : OfKeys K.Denot) (a : alloc.Ghosts A.Denot)
     → MutBor (OrderedView K.Denot V.Denot) → K.Denot → MutBor V.Denot → Fml
 lends_there K V A g a m k r =
     Lends (map_row K V A g a) V m r
-    (λ x. record { entries = insert_entry g.cmp m.now.entries k x; capacity = m.now.capacity })
+    (λ x. record m.now { entries = insert_entry g.cmp m.now.entries k x })

@@ -3,7 +3,7 @@ ghost use Rattle.std.specs.Prelude.{◌≡◌, List, [], Err, IfErr, IfOk, IsOk}
 ghost use Rattle.std.specs.Iterator.{Drains, ExtendsWithItems, IsFiniteIterable, size};
 ghost use Rattle.allocator_api2.specs.Errors.{IsErrorFor};
 ghost use Rattle.aa_ordered.specs.Capacity.{requested};
-ghost use Rattle.aa_ordered.specs.Entries.{OrderedView};
+ghost use Rattle.aa_ordered.specs.Entries.{empty, OrderedView};
 ghost use Rattle.aa_ordered.specs.Iterating.{insert_all, HasCapacity, InsertsAll};
 
 use crate::map::OrderedMap;
@@ -30,6 +30,9 @@ impl<K: Ord + Drop, V: Drop, A: Allocator + Clone> OrderedMap<K, V, A> {
         // It succeeds if there is capacity for all items.
         ensures fits { ((it : U.IntoIter) → U.into_iter_gives iter it
             → HasCapacity self.old (size (U.IntoIter.remaining it))) → IsOk result }
+        ensures steady { ((it : U.IntoIter) → U.into_iter_gives iter it
+            → HasCapacity self.old (size (U.IntoIter.remaining it)))
+            → (self.new.capacity ≡ self.old.capacity) × (self.new.resizes ≡ self.old.resizes) }
         ensures error { IfErr result (λ e. IsErrorFor e (requested self.new 1)) }
     {
         'each: for entry in iter {
@@ -63,8 +66,7 @@ impl<K: Ord + Drop, V: Drop, A: Allocator + Copy> OrderedMap<K, V, A> {
             → size (U.IntoIter.remaining it) ≡ 0) → IsOk result }
         ensures failed { IfErr result (λ e. (map : OrderedView K V)
             × ExtendsWithItems U.into_iter_gives U.IntoIter.next_gives (InsertsAll K.cmp) iter
-            (record { entries = []; capacity = 0 }) map (Err e)
-            × IsErrorFor e (requested map 1)) }
+            empty map (Err e) × IsErrorFor e (requested map 1)) }
     {
         let mut map = OrderedMap::new_in(alloc);
         match map.extend(iter) {
@@ -85,6 +87,9 @@ impl<K: Ord + Drop, V: Drop, A: Allocator + Clone> Extend<(K, V)> for OrderedMap
             (InsertsAll K.cmp) iter self.old self.new result }
         ensures fits { ((it : U.IntoIter) → U.into_iter_gives iter it
             → HasCapacity self.old (size (U.IntoIter.remaining it))) → IsOk result }
+        ensures steady { ((it : U.IntoIter) → U.into_iter_gives iter it
+            → HasCapacity self.old (size (U.IntoIter.remaining it)))
+            → (self.new.capacity ≡ self.old.capacity) × (self.new.resizes ≡ self.old.resizes) }
     {
         match OrderedMap::extend(self, iter) {
             Ok(()) => Ok(()),

@@ -4,6 +4,7 @@ ghost use Rattle.std.specs.Borrow.{sem};
 ghost use Rattle.std.specs.List.{All};
 ghost use Rattle.aa_ordered.specs.Leaves.{list_at, replaced, with_list, with_lists};
 
+use allocator_api2::counter::Counter;
 use allocator_api2::raw_vec::RawVec;
 use allocator_api2::vec::Vec;
 use std::alloc::Allocator;
@@ -31,13 +32,15 @@ pub(crate) struct Head {
 
 /// Lists of at most 64 items each, in the leaves of one block.
 ///
-/// A contract sees the lists, in order, and the number of leaves. No function allocates, except
-/// `try_reserve` and `shrink_to`.
+/// A contract sees the lists, in order, the number of leaves, and the number of times that the lists
+/// moved to new blocks. No function allocates, except `try_reserve` and `shrink_to`.
 pub struct Leaves<T, A: Allocator> {
     block: RawVec<T, A>,
     // a head for each leaf: first those of the lists, in order, and then those of the free leaves
     heads: Vec<Head, A>,
     used: usize,
+    // how often the lists moved to new blocks
+    resizes: Counter,
 }
 
 impl<T, A: Allocator> Model for Leaves<T, A> {
@@ -59,12 +62,13 @@ impl<T, A: Allocator> Leaves<T, A> {
     ///
     /// Does not allocate.
     pub fn new_in(alloc: A, other: A) -> Self
-        ensures { result ≡ record { lists = []; room = 0 } }
+        ensures { result ≡ record { lists = []; room = 0; resizes = 0 } }
     {
         Leaves {
             block: RawVec::new_in(alloc),
             heads: Vec::new_in(other),
             used: 0,
+            resizes: Counter::zero(),
         }
     }
 
@@ -318,7 +322,7 @@ impl<T, A: Allocator> Leaves<T, A> {
 impl<T: Drop, A: Allocator> Leaves<T, A> {
     /// Removes all lists and drops their items, in order.
     ///
-    /// Does not change the number of leaves.
+    /// Does not allocate, and does not change the number of leaves.
     pub fn clear(&mut self)
         ensures { self.new ≡ with_lists self.old [] }
     {
@@ -336,6 +340,7 @@ impl<T: Drop, A: Allocator> Drop for Leaves<T, A> {
             mut block,
             heads,
             used,
+            resizes: _,
         } = self;
         moves::drop_lists(&mut block, &heads.as_slice()[..used]);
         block.forget_from(0);

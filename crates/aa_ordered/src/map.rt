@@ -4,8 +4,8 @@ ghost use Rattle.std.specs.Borrow.{sem};
 ghost use Rattle.std.specs.Option.{option_copied_mut};
 ghost use Rattle.std.specs.BTreeMap.{insert_entry};
 ghost use Rattle.allocator_api2.specs.Errors.{IsErrorFor};
-ghost use Rattle.aa_ordered.specs.Capacity.{capacity_of, leaves_for, requested, reserved_capacity};
-ghost use Rattle.aa_ordered.specs.Entries.{entry_of, value, without, IsOrdered};
+ghost use Rattle.aa_ordered.specs.Capacity.{requested, resizes_to};
+ghost use Rattle.aa_ordered.specs.Entries.{empty, entry_of, value, without, IsOrdered};
 
 use crate::leaves::Leaves;
 use allocator_api2::collections::{Refused, TryReserveError};
@@ -27,7 +27,8 @@ mod vacant;
 
 /// An ordered map over any allocator: a B-tree of two levels.
 ///
-/// A contract sees a map as the list of its entries, in the order of the keys, and its capacity.
+/// A contract sees a map as the list of its entries, in the order of the keys, its capacity, and the
+/// number of times that it moved to new blocks.
 ///
 /// The entries are in leaves of one block, of at most 64 entries each, so that no leaf is an
 /// allocation of its own. Two neighbouring leaves have at least 64 entries together.
@@ -82,7 +83,7 @@ impl<K: Ord, V, A: Allocator + Copy> OrderedMap<K, V, A> {
     ///
     /// Does not allocate.
     pub fn new_in(alloc: A) -> Self
-        ensures { result ≡ record { entries = []; capacity = 0 } }
+        ensures { result ≡ empty }
     {
         OrderedMap {
             leaves: Leaves::new_in(alloc, alloc),
@@ -97,7 +98,7 @@ impl<K: Ord, V, A: Allocator + Clone> OrderedMap<K, V, A> {
     /// # Errors
     /// The error of `alloc.clone()`.
     pub fn try_new_in(alloc: A) -> Result<Self, AllocError>
-        ensures { IfOk result (λ m. m ≡ record { entries = []; capacity = 0 }) }
+        ensures { IfOk result (λ m. m ≡ empty) }
     {
         let other = alloc.clone()?;
         let leaves = Leaves::new_in(alloc, other);
@@ -214,6 +215,7 @@ impl<K: Ord + Drop, V, A: Allocator + Clone> OrderedMap<K, V, A> {
         ensures capacity { length self.old.entries < self.old.capacity
             → self.new.capacity ≡ self.old.capacity }
         ensures grown { self.old.capacity ≤ self.new.capacity }
+        ensures resizes { self.new.resizes ≡ resizes_to self.old self.new.capacity }
 
         // An error returns key and value, says why it failed, and leaves the map unchanged.
         ensures returned { IfErr result (λ r. r.source ≡ (key, item)) }
@@ -241,10 +243,8 @@ impl<K: Ord, V, A: Allocator> OrderedMap<K, V, A> {
     /// Does not allocate, and does not change the capacity.
     pub fn remove_entry(&mut self, key: &K) -> Option<(K, V)>
         ensures old { result ≡ entry_of K.cmp self.old.entries key.now }
-        ensures removed { self.new ≡ record {
-          entries = without K.cmp self.old.entries key.now;
-          capacity = self.old.capacity;
-        } }
+        ensures removed { self.new
+            ≡ record self.old { entries = without K.cmp self.old.entries key.now } }
     {
         match find(&self.leaves, key) {
             Ok(spot) => {
@@ -260,9 +260,9 @@ impl<K: Ord, V, A: Allocator> OrderedMap<K, V, A> {
 impl<K: Ord + Drop, V: Drop, A: Allocator> OrderedMap<K, V, A> {
     /// Removes all entries, and drops them in the order of the keys.
     ///
-    /// Does not change the capacity.
+    /// Does not allocate, and does not change the capacity.
     pub fn clear(&mut self)
-        ensures { self.new ≡ record { entries = []; capacity = self.old.capacity } }
+        ensures { self.new ≡ record self.old { entries = [] } }
     {
         self.leaves.clear();
         self.len = 0;
@@ -275,10 +275,8 @@ impl<K: Ord + Drop, V, A: Allocator> OrderedMap<K, V, A> {
     /// Does not allocate, and does not change the capacity.
     pub fn remove(&mut self, key: &K) -> Option<V>
         ensures old { result ≡ value K.cmp self.old.entries key.now }
-        ensures removed { self.new ≡ record {
-          entries = without K.cmp self.old.entries key.now;
-          capacity = self.old.capacity;
-        } }
+        ensures removed { self.new
+            ≡ record self.old { entries = without K.cmp self.old.entries key.now } }
     {
         match self.remove_entry(key) {
             Some((_, item)) => Some(item),

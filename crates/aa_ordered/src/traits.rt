@@ -1,6 +1,6 @@
 //! A map as the standard traits see it: made empty, formatted, indexed, and its iterators cloned.
 ghost use Rattle.std.specs.Prelude.{◌≡◌, [], Some, ⊤, IfOk, IsOk, IsSome};
-ghost use Rattle.aa_ordered.specs.Entries.{value};
+ghost use Rattle.aa_ordered.specs.Entries.{empty, value};
 
 use crate::iter::{Iter, Keys, Values};
 use crate::map::OrderedMap;
@@ -13,7 +13,7 @@ use std::fmt::{Debug, Formatter};
 use std::ops::Index;
 
 impl<K: Ord, V, A: Allocator + Copy> MadeWith<A> for OrderedMap<K, V, A> {
-    ghost is_made_with = { λ m. m ≡ record { entries = []; capacity = 0 } };
+    ghost is_made_with = { λ m. m ≡ empty };
 
     /// Returns an empty map.
     ///
@@ -24,13 +24,13 @@ impl<K: Ord, V, A: Allocator + Copy> MadeWith<A> for OrderedMap<K, V, A> {
 }
 
 impl<K: Ord, V, A: Allocator + Copy> Emptied for OrderedMap<K, V, A> {
-    ghost is_emptied = { λ m. m ≡ record { entries = []; capacity = 0 } };
+    ghost is_emptied = { λ m. m ≡ empty };
 
     /// Returns an empty map with the allocator of `like`.
     ///
     /// Does not allocate, and does not fail.
     fn emptied(like: &Self) -> Result<Self, AllocError>
-        ensures made { IfOk result (λ m. m ≡ record { entries = []; capacity = 0 }) }
+        ensures made { IfOk result (λ m. m ≡ empty) }
         ensures fits { IsOk result }
     {
         Ok(OrderedMap::new_in(*like.allocator()))

@@ -1,12 +1,12 @@
 //! Reserving leaves, and freeing them.
-ghost use Rattle.std.specs.Prelude.{◌≡◌, ◌+◌, ◌*◌, ◌^◌, ◌<◌, ◌≤◌, [], ◌∷◌, ◌++◌, length, get_or, max, min, IfErr, IfOk, IfNone, IfSome, OnErr, OnOk, IsOk};
+ghost use Rattle.std.specs.Prelude.{◌≡◌, ◌≢◌, ◌+◌, ◌*◌, ◌^◌, ◌<◌, ◌≤◌, [], ◌∷◌, ◌++◌, length, get_or, max, min, IfErr, IfOk, IfNone, IfSome, OnErr, OnOk, IsOk};
 ghost use Rattle.std.specs.Mem.{type_size};
 ghost use Rattle.allocator_api2.specs.Errors.{IsErrorFor};
 ghost use Rattle.allocator_api2.specs.Places.{AreEmpty};
 ghost use Rattle.allocator_api2.specs.declared.collections.TryReserveErrorKind.TheVariants.{AllocError};
 ghost use Rattle.aa_ordered.specs.declared.leaves.Head.{Head};
 ghost use Rattle.aa_ordered.specs.Arena.{AreNumbered};
-ghost use Rattle.aa_ordered.specs.Leaves.{room_for};
+ghost use Rattle.aa_ordered.specs.Leaves.{room_for, with_room};
 
 use super::{Head, LEAF, Leaves, moves};
 use allocator_api2::collections::{TryReserveError, TryReserveErrorKind};
@@ -25,10 +25,8 @@ impl<T, A: Allocator + Clone> Leaves<T, A> {
     /// with the number of items in the requested leaves. The arena is unchanged.
     pub fn try_reserve(&mut self, additional: usize) -> Result<(), TryReserveError>
         ensures fits { length self.old.lists + additional ≤ self.old.room → IsOk result }
-        ensures reserved { OnOk result (self.new ≡ record {
-          lists = self.old.lists;
-          room = room_for self.old additional;
-        }) }
+        ensures reserved { OnOk result
+            (self.new ≡ with_room self.old (room_for self.old additional)) }
         ensures error { IfErr result (λ e. IsErrorFor e (room_for self.old additional * 64)) }
         ensures exact { let n = room_for self.old additional * 64 in
             n < 2 ^ 64 → n * type_size T.row < 2 ^ 63 → IfErr result (λ e. e.kind ≡ AllocError n) }
@@ -53,10 +51,8 @@ impl<T, A: Allocator + Clone> Leaves<T, A> {
     /// `AllocError` with the number of items in the requested leaves. The arena is unchanged.
     pub fn shrink_to(&mut self, leaves: usize) -> Result<(), TryReserveError>
         ensures sufficient { self.old.room ≤ max leaves (length self.old.lists) → IsOk result }
-        ensures shrunk { OnOk result (self.new ≡ record {
-          lists = self.old.lists;
-          room = min self.old.room (max leaves (length self.old.lists));
-        }) }
+        ensures shrunk { OnOk result (self.new
+            ≡ with_room self.old (min self.old.room (max leaves (length self.old.lists)))) }
         ensures error { IfErr result (λ e. e.kind
             ≡ AllocError (max leaves (length self.old.lists) * 64)) }
         ensures unchanged { OnErr result (self.new ≡ self.old) }
@@ -69,17 +65,17 @@ impl<T, A: Allocator + Clone> Leaves<T, A> {
         self.move_to(leaves)
     }
 
-    // Moves all lists to a new block of `leaves` leaves.
+    // Moves all lists to a new block of `leaves` leaves, and counts this as a resize.
+    //
+    // No blocks are allocated, or counted, for no leaves.
     #[cold]
     #[inline(never)]
     #[tactic(auto, using(allocator_api2::proofs::Blocks::emptied))]
     fn move_to(&mut self, leaves: usize) -> Result<(), TryReserveError>
         requires lists { length self.old.lists ≤ leaves }
+        requires other { leaves ≢ self.old.room }
         requires small { leaves * 64 < 2 ^ 64 }
-        ensures moved { OnOk result (self.new ≡ record {
-          lists = self.old.lists;
-          room = leaves;
-        }) }
+        ensures moved { OnOk result (self.new ≡ with_room self.old leaves) }
         ensures error { IfErr result (λ e. IsErrorFor e (leaves * 64)) }
         ensures exact { leaves * 64 * type_size T.row < 2 ^ 63
             → IfErr result (λ e. e.kind ≡ AllocError (leaves * 64)) }
@@ -99,6 +95,7 @@ impl<T, A: Allocator + Clone> Leaves<T, A> {
         self.block.forget_from(0);
         self.block = block;
         self.heads = heads;
+        self.resizes.add(leaves.min(1));
         Ok(())
     }
 }

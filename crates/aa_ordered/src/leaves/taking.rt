@@ -54,7 +54,12 @@ impl<T: Drop, A: Allocator> Leaves<T, A> {
     pub fn into_items(self) -> IntoItems<T, A>
         ensures { result ≡ items self }
     {
-        let Leaves { block, heads, used } = self;
+        let Leaves {
+            block,
+            heads,
+            used,
+            resizes: _,
+        } = self;
         let mut heads = heads;
         heads.truncate(used);
         block.prove_capacity_bounds();

@@ -3,7 +3,7 @@ ghost use Rattle.std.specs.Prelude.{◌≡◌, ◌+◌, ◌<◌, ◌≤◌, [], 
 ghost use Rattle.std.specs.BTreeMap.{insert_entry};
 ghost use Rattle.allocator_api2.specs.Errors.{IsErrorFor};
 ghost use Rattle.aa_ordered.specs.Iterating.{insert_all};
-ghost use Rattle.aa_ordered.specs.Capacity.{requested, reserved_capacity};
+ghost use Rattle.aa_ordered.specs.Capacity.{requested, reserved_capacity, reserved_resizes};
 
 use super::OrderedMap;
 use allocator_api2::collections::TryReserveError;
@@ -16,6 +16,7 @@ impl<K: Ord + Drop, V: Drop, A: Allocator + Clone> OrderedMap<K, V, A> {
         requires { length self.old.entries < self.old.capacity }
         ensures inserted { self.new.entries ≡ insert_entry K.cmp self.old.entries key item }
         ensures capacity { self.new.capacity ≡ self.old.capacity }
+        ensures resizes { self.new.resizes ≡ self.old.resizes }
     {
         match self.insert(key, item) {
             Ok(_) => {}
@@ -37,9 +38,9 @@ impl<K: Ord + Drop, V: Drop, A: Allocator + Clone> OrderedMap<K, V, A> {
         ensures appended { OnOk result (self.new ≡ record {
           entries = insert_all K.cmp self.old.entries other.old.entries;
           capacity = reserved_capacity self.old (length other.old.entries);
+          resizes = reserved_resizes self.old (length other.old.entries);
         }) }
-        ensures emptied { OnOk result
-            (other.new ≡ record { entries = []; capacity = other.old.capacity }) }
+        ensures emptied { OnOk result (other.new ≡ record other.old { entries = [] }) }
         ensures error { IfErr result
             (λ e. IsErrorFor e (requested self.old (length other.old.entries))) }
         ensures unchanged { OnErr result (self.new ≡ self.old) }

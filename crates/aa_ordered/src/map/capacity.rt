@@ -1,7 +1,7 @@
 //! The capacity of a map.
 ghost use Rattle.std.specs.Prelude.{◌≡◌, ◌+◌, ◌*◌, ◌<◌, ◌≤◌, [], length, IfErr, IfOk, IsOk, OnErr, OnOk};
 ghost use Rattle.allocator_api2.specs.Errors.{IsErrorFor};
-ghost use Rattle.aa_ordered.specs.Capacity.{capacity_of, leaves_for, leaves_of, requested, reserved_capacity, IsAllocErrorWithin};
+ghost use Rattle.aa_ordered.specs.Capacity.{capacity_of, fresh_resizes, leaves_for, leaves_of, requested, reserved_capacity, reserved_resizes, resizes_to, IsAllocErrorWithin};
 
 use super::OrderedMap;
 use allocator_api2::collections::{TryReserveError, TryReserveErrorKind};
@@ -31,9 +31,9 @@ impl<K: Ord, V, A: Allocator + Clone> OrderedMap<K, V, A> {
     /// allocation fails. The map is unchanged.
     pub fn reserve(&mut self, additional: usize) -> Result<(), TryReserveError>
         ensures fits { length self.old.entries + additional ≤ self.old.capacity → IsOk result }
-        ensures reserved { OnOk result (self.new ≡ record {
-          entries = self.old.entries;
+        ensures reserved { OnOk result (self.new ≡ record self.old {
           capacity = reserved_capacity self.old additional;
+          resizes = reserved_resizes self.old additional;
         }) }
         ensures room { OnOk result (length self.new.entries + additional ≤ self.new.capacity) }
         ensures error { IfErr result (λ e. IsErrorFor e (requested self.old additional)) }
@@ -71,6 +71,7 @@ impl<K: Ord, V, A: Allocator + Clone> OrderedMap<K, V, A> {
         ensures capacity { self.new.capacity ≤ self.old.capacity }
         ensures shrunk { OnOk result (self.new.capacity < length self.old.entries + 64) }
         ensures none { OnOk result (self.old.entries ≡ [] → self.new.capacity ≡ 0) }
+        ensures resizes { self.new.resizes ≡ resizes_to self.old self.new.capacity }
 
         // An error says how many places were requested, and leaves the map unchanged.
         ensures error { let n = length self.old.entries in
@@ -93,8 +94,11 @@ impl<K: Ord + Drop, V: Drop, A: Allocator + Copy> OrderedMap<K, V, A> {
     /// `CapacityOverflow` if the bytes exceed `isize::MAX`; `AllocError` with the number of entries
     /// in the requested leaves if an allocation fails.
     pub fn with_capacity_in(capacity: usize, alloc: A) -> Result<Self, TryReserveError>
-        ensures made { IfOk result (λ m. m
-            ≡ record { entries = []; capacity = capacity_of (leaves_for capacity) }) }
+        ensures made { IfOk result (λ m. m ≡ record {
+          entries = [];
+          capacity = capacity_of (leaves_for capacity);
+          resizes = fresh_resizes capacity;
+        }) }
         ensures room { IfOk result (λ m. capacity ≤ m.capacity) }
         ensures none { capacity ≡ 0 → IsOk result }
         ensures error { IfErr result (λ e. IsErrorFor e (leaves_for capacity * 64)) }

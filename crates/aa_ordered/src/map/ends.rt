@@ -39,8 +39,7 @@ impl<K: Ord, V, A: Allocator> OrderedMap<K, V, A> {
     /// Does not allocate, and does not change the capacity.
     pub fn pop_first(&mut self) -> Option<(K, V)>
         ensures first { result ≡ slice_get self.old.entries 0 }
-        ensures removed { self.new
-            ≡ record { entries = drop 1 self.old.entries; capacity = self.old.capacity } }
+        ensures removed { self.new ≡ record self.old { entries = drop 1 self.old.entries } }
     {
         match first_spot(&self.leaves) {
             Some(spot) => {
@@ -57,10 +56,8 @@ impl<K: Ord, V, A: Allocator> OrderedMap<K, V, A> {
     /// Does not allocate, and does not change the capacity.
     pub fn pop_last(&mut self) -> Option<(K, V)>
         ensures last { result ≡ slice_get self.old.entries (length self.old.entries - 1) }
-        ensures removed { self.new ≡ record {
-          entries = take (length self.old.entries - 1) self.old.entries;
-          capacity = self.old.capacity;
-        } }
+        ensures removed { self.new
+            ≡ record self.old { entries = take (length self.old.entries - 1) self.old.entries } }
     {
         match last_spot(&self.leaves) {
             Some(spot) => {

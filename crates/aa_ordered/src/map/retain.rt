@@ -36,6 +36,7 @@ fn visit<K: Drop, V: Drop, A: Allocator, F: FnMut(&K, &mut V) -> bool>(
     ensures callable { F.IsAlwaysCallable f.new }
     ensures balanced { IsBalanced (lengths leaves.new.lists) }
     ensures room { leaves.new.room ≡ leaves.old.room }
+    ensures resizes { leaves.new.resizes ≡ leaves.old.resizes }
     ensures within { result.0.at ≤ length (list_at leaves.new result.0.list) }
     ensures visited { Visits F.step f.old (joined leaves.old.lists)
         (position leaves.old.lists spot.list spot.at) (joined leaves.new.lists)
@@ -68,6 +69,7 @@ fn retain_in<K: Ord + Drop, V: Drop, A: Allocator, F: FnMut(&K, &mut V) -> bool>
     ensures balanced { IsBalanced (lengths leaves.new.lists) }
     ensures ordered { IsOrdered K.cmp (joined leaves.new.lists) }
     ensures room { leaves.new.room ≡ leaves.old.room }
+    ensures resizes { leaves.new.resizes ≡ leaves.old.resizes }
     ensures kept { Retains F.step f.old (joined leaves.old.lists) (joined leaves.new.lists) f.new }
     ensures count { result + length (joined leaves.new.lists) ≡ length (joined leaves.old.lists) }
 {
@@ -91,6 +93,7 @@ impl<K: Ord + Drop, V: Drop, A: Allocator> OrderedMap<K, V, A> {
         requires { F.IsAlwaysCallable f }
         ensures kept { (last : F) × Retains F.step f self.old.entries self.new.entries last }
         ensures capacity { self.new.capacity ≡ self.old.capacity }
+        ensures resizes { self.new.resizes ≡ self.old.resizes }
     {
         self.len -= retain_in(&mut self.leaves, &mut f);
     }

@@ -2,7 +2,7 @@
 ghost use Rattle.std.specs.Prelude.{◌≡◌, ◌-◌, ◌*◌, ◌≤◌, [], drop, length, take, false, IfErr, IfOk, IsOk, OnErr, OnOk};
 ghost use Rattle.allocator_api2.specs.Errors.{IsErrorFor};
 ghost use Rattle.aa_ordered.specs.Balance.{joined};
-ghost use Rattle.aa_ordered.specs.Capacity.{capacity_of, leaves_for};
+ghost use Rattle.aa_ordered.specs.Capacity.{capacity_of, fresh_resizes, leaves_for};
 ghost use Rattle.aa_ordered.specs.Entries.{IsOrdered};
 ghost use Rattle.aa_ordered.specs.Ranges.{entries_after, entries_before};
 
@@ -56,14 +56,8 @@ impl<K: Ord + Drop, V: Drop, A: Allocator + Clone> OrderedMap<K, V, A> {
         requires ordered { IsOrdered K.cmp self.old.entries }
         requires empty { rest.old.entries ≡ [] }
         requires room { length self.old.entries - at ≤ rest.old.capacity }
-        ensures kept { self.new ≡ record {
-          entries = take at self.old.entries;
-          capacity = self.old.capacity;
-        } }
-        ensures moved { rest.new ≡ record {
-          entries = drop at self.old.entries;
-          capacity = rest.old.capacity;
-        } }
+        ensures kept { self.new ≡ record self.old { entries = take at self.old.entries } }
+        ensures moved { rest.new ≡ record rest.old { entries = drop at self.old.entries } }
     {
         'each: while self.len() > at {
             match self.pop_last() {
@@ -88,13 +82,14 @@ impl<K: Ord + Drop, V: Drop, A: Allocator + Copy> OrderedMap<K, V, A> {
         ensures none { entries_after K.cmp key.now false self.old.entries ≡ [] → IsOk result }
 
         // The entries before the key remain, and the others are returned.
-        ensures kept { OnOk result (self.new ≡ record {
-          entries = entries_before K.cmp key.now false self.old.entries;
-          capacity = self.old.capacity;
-        }) }
+        ensures kept { OnOk result (self.new
+            ≡ record self.old { entries = entries_before K.cmp key.now false self.old.entries }) }
         ensures split { let rest = entries_after K.cmp key.now false self.old.entries in
-            IfOk result (λ m. m
-            ≡ record { entries = rest; capacity = capacity_of (leaves_for (length rest)) }) }
+            IfOk result (λ m. m ≡ record {
+              entries = rest;
+              capacity = capacity_of (leaves_for (length rest));
+              resizes = fresh_resizes (length rest);
+            }) }
 
         // An error says why it failed, and leaves the map unchanged.
         ensures error { let rest = entries_after K.cmp key.now false self.old.entries in

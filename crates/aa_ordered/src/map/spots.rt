@@ -3,7 +3,7 @@ ghost use Rattle.std.specs.Prelude.{◌≡◌, ◌+◌, ◌*◌, ◌<◌, ◌≤
 ghost use Rattle.allocator_api2.specs.Errors.{IsErrorFor};
 ghost use Rattle.aa_ordered.specs.Balance.{first, joined, last, lengths, position, HasRoom, IsAt, IsBalanced, IsSpot};
 ghost use Rattle.aa_ordered.specs.Capacity.{capacity_of, leaves_for};
-ghost use Rattle.aa_ordered.specs.Leaves.{list_at};
+ghost use Rattle.aa_ordered.specs.Leaves.{list_at, resizes_to};
 
 use crate::leaves::{LEAF, Leaves};
 use allocator_api2::collections::{Refused, TryReserveError};
@@ -100,6 +100,7 @@ fn shift_back<T, A: Allocator>(leaves: &mut Leaves<T, A>, spot: Spot) -> Spot
     ensures moved { HasRoom leaves.old.lists (position leaves.old.lists spot.list spot.at)
         leaves.new.lists result.list result.at }
     ensures room { leaves.new.room ≡ leaves.old.room }
+    ensures resizes { leaves.new.resizes ≡ leaves.old.resizes }
 {
     leaves.prove_bounds();
     let i = spot.list - 1;
@@ -130,6 +131,7 @@ fn shift_on<T, A: Allocator>(leaves: &mut Leaves<T, A>, spot: Spot) -> Spot
     ensures moved { HasRoom leaves.old.lists (position leaves.old.lists spot.list spot.at)
         leaves.new.lists result.list result.at }
     ensures room { leaves.new.room ≡ leaves.old.room }
+    ensures resizes { leaves.new.resizes ≡ leaves.old.resizes }
 {
     leaves.prove_bounds();
     let next = spot.list + 1;
@@ -159,6 +161,7 @@ fn split<T, A: Allocator>(leaves: &mut Leaves<T, A>, spot: Spot) -> Spot
     ensures moved { HasRoom leaves.old.lists (position leaves.old.lists spot.list spot.at)
         leaves.new.lists result.list result.at }
     ensures room { leaves.new.room ≡ leaves.old.room }
+    ensures resizes { leaves.new.resizes ≡ leaves.old.resizes }
 {
     leaves.prove_bounds();
     leaves.split(spot.list, HALF);
@@ -186,6 +189,7 @@ fn make_room<T, A: Allocator + Clone>(
     ensures room { length (joined leaves.old.lists) < capacity_of leaves.old.room
         → leaves.new.room ≡ leaves.old.room }
     ensures grown { leaves.old.room ≤ leaves.new.room }
+    ensures resizes { leaves.new.resizes ≡ resizes_to leaves.old leaves.new.room }
     ensures error { IfErr result (λ e. IsErrorFor e
         (max (2 * leaves.old.room) (leaves_for (length (joined leaves.old.lists) + 1)) * 64)) }
     ensures unchanged { OnErr result (leaves.new ≡ leaves.old) }
@@ -214,6 +218,7 @@ fn insert_first<T, A: Allocator + Clone>(
     ensures inserted { OnOk result (leaves.new.lists ≡ (item ∷ []) ∷ []) }
     ensures room { 0 < leaves.old.room → leaves.new.room ≡ leaves.old.room }
     ensures grown { leaves.old.room ≤ leaves.new.room }
+    ensures resizes { leaves.new.resizes ≡ resizes_to leaves.old leaves.new.room }
     ensures returned { IfErr result (λ r. r.source ≡ item) }
     ensures error { IfErr result (λ r. IsErrorFor r.error 64) }
     ensures unchanged { OnErr result (leaves.new ≡ leaves.old) }
@@ -250,6 +255,7 @@ pub(crate) fn insert_at<T, A: Allocator + Clone>(
     ensures room { length (joined leaves.old.lists) < capacity_of leaves.old.room
         → leaves.new.room ≡ leaves.old.room }
     ensures grown { leaves.old.room ≤ leaves.new.room }
+    ensures resizes { leaves.new.resizes ≡ resizes_to leaves.old leaves.new.room }
     ensures returned { IfErr result (λ r. r.source ≡ item) }
     ensures error { IfErr result (λ r. IsErrorFor r.error
         (max (2 * leaves.old.room) (leaves_for (length (joined leaves.old.lists) + 1)) * 64)) }
@@ -284,6 +290,7 @@ fn mend<T, A: Allocator>(leaves: &mut Leaves<T, A>, spot: Spot) -> Spot
     ensures same { joined leaves.new.lists ≡ joined leaves.old.lists }
     ensures balanced { IsBalanced (lengths leaves.new.lists) }
     ensures room { leaves.new.room ≡ leaves.old.room }
+    ensures resizes { leaves.new.resizes ≡ leaves.old.resizes }
     ensures within { result.at ≤ length (list_at leaves.new result.list) }
     ensures place { position leaves.new.lists result.list result.at
         ≡ position leaves.old.lists spot.list spot.at }
@@ -319,6 +326,7 @@ pub(crate) fn take_at<T, A: Allocator>(leaves: &mut Leaves<T, A>, spot: Spot) ->
         (position leaves.old.lists spot.list spot.at) }
     ensures balanced { IsBalanced (lengths leaves.new.lists) }
     ensures room { leaves.new.room ≡ leaves.old.room }
+    ensures resizes { leaves.new.resizes ≡ leaves.old.resizes }
     ensures within { result.1.at ≤ length (list_at leaves.new result.1.list) }
     ensures place { position leaves.new.lists result.1.list result.1.at
         ≡ position leaves.old.lists spot.list spot.at }
@@ -337,6 +345,7 @@ pub(crate) fn remove_at<T, A: Allocator>(leaves: &mut Leaves<T, A>, spot: Spot) 
         (position leaves.old.lists spot.list spot.at) }
     ensures balanced { IsBalanced (lengths leaves.new.lists) }
     ensures room { leaves.new.room ≡ leaves.old.room }
+    ensures resizes { leaves.new.resizes ≡ leaves.old.resizes }
 {
     take_at(leaves, spot).0
 }

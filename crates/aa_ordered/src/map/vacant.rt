@@ -47,10 +47,8 @@ impl<K: Ord + Drop, V: Drop, A: Allocator + Clone> OrderedMap<K, V, A> {
     pub(crate) fn take(&mut self, key: &K) -> (K, V)
         requires { is_some (value K.cmp self.old.entries key.now) ≡ true }
         ensures entry { entry_of K.cmp self.old.entries key.now ≡ Some result }
-        ensures removed { self.new ≡ record {
-          entries = without K.cmp self.old.entries key.now;
-          capacity = self.old.capacity;
-        } }
+        ensures removed { self.new
+            ≡ record self.old { entries = without K.cmp self.old.entries key.now } }
     {
         match self.remove_entry(key) {
             Some(entry) => entry,

@@ -26,4 +26,4 @@ returns g c =
     let gs = insert (remove hs i) (a.used - 1) e in let new = c.move_up.new.heads in
     let step : new ≡ gs = c.move_up.ensures (head 0 0) ∙ ap (λ xs. insert (remove xs i) (a.used - 1) (get_or xs i (head 0 0))) c.as_mut_slice.ensures.value in
     let heads : refill (length hs) c.as_mut_slice.result.now new ≡ gs = take_at new (drop (length new) c.as_mut_slice.result.now) (length hs) (ap length step ∙ long-freed cs hs a.used is i e read i-used) ∙ step in
-    subst (λ xs. record { lists = map (list_of cs) (take (a.used - 1) xs); room = length xs } ≡ with_lists v (replaced v.lists i 1 [])) (sym heads) (view-freed cs hs a.used is i e read i-used v c.self.view_is)
+    subst (λ xs. record { lists = map (list_of cs) (take (a.used - 1) xs); room = length xs; resizes = a.resizes.count } ≡ with_lists v (replaced v.lists i 1 [])) (sym heads) (view-freed cs hs a.used is i e read i-used v c.self.view_is)

@@ -1,10 +1,11 @@
-use Rattle.std.proofs.Common.{◌≡◌, ◌<◌, ◌≤◌, ℕ, ap, arith, get_or, length, length-take-le, map, subst, sym, take, All, ◌∙◌}
+use Rattle.std.proofs.Common.{◌≡◌, ◌<◌, ◌≤◌, ℕ, ap, arith, get_or, length, length-take-le, map, min, subst, ◌+◌, sym, take, All, ◌∙◌}
 use Rattle.std.proofs.lemmas.List.Elements.{All-weaker}
 use Rattle.aa_ordered.specs.Arena.{heads_of, list_of, AreNumbered, IsArena, IsHeld, IsMoved}
 use Rattle.aa_ordered.specs.Leaves.{LeavesView}
 use Rattle.aa_ordered.specs.declared.leaves.Head.{Head}
 use Rattle.aa_ordered.proofs.Arena.{count-lists, once-taken}
 use Rattle.aa_ordered.proofs.Edits.{numbered-arena, numbered-lists}
+use Rattle.aa_ordered.proofs.Resizing.{moved-count}
 use Rattle.aa_ordered.proofs.leaves.Leaves.move_to.Goals as goal
 
 pub move_lists-requires-clause-once : goal.move_lists-requires-clause-once
@@ -30,4 +31,8 @@ returns-clause-moved g c =
     let moved : (i : ℕ) (h : Head) → i < length hs → h ≡ get_or hs i h → IsMoved cs ds i h = subst (λ xs. (i : ℕ) (h : Head) → i < length (take a.used xs) → h ≡ get_or (take a.used xs) i h → IsMoved cs ds i h) c.as_slice-2.ensures c.move_lists.ensures.lists in
     let small : All (λ h. h.len ≤ 64) hs = All-weaker (IsHeld cs) (λ h. h.len ≤ 64) (λ h p. p.0) hs is.held in
     let within : length hs ≤ n = omega (arith, count, c.requires.lists, count-lists cs all a.used is, ap (λ (v : LeavesView _). length v.lists) c.self.view_is) in
-    (λ j. record { lists = (ap (λ m. map (list_of ds) (take m news)) (sym count) ∙ numbered-lists hs news n num cs ds within small moved ∙ ap (λ (v : LeavesView _). v.lists) c.self.view_is) j; room = num.count j })
+    let times = c.add.ensures ∙ ap (λ k. a.resizes.count + k) c.min.ensures ∙ ap (λ (v : LeavesView _). v.resizes + min n 1) c.self.view_is ∙ moved-count c.args.self.now n c.requires.other in (λ j. record {
+      lists = (ap (λ m. map (list_of ds) (take m news)) (sym count) ∙ numbered-lists hs news n num cs ds within small moved ∙ ap (λ (v : LeavesView _). v.lists) c.self.view_is) j;
+      room = num.count j;
+      resizes = times j;
+    })

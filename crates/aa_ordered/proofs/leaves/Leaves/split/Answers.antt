@@ -85,5 +85,5 @@ returns g c =
     let first : run ds (h.leaf * 64) n ≡ take n (run cs (h.leaf * 64) h.len) = subst (λ l. run ds (h.leaf * 64) l ≡ take l (run cs (h.leaf * 64) h.len)) back m.kept in
     let empty = run-none cs (e.leaf * 64) 0 refl in
     let second : run ds (e.leaf * 64) k ≡ drop n (run cs (h.leaf * 64) h.len) = ap (run ds (e.leaf * 64)) (sym (zero-add k)) ∙ m.moved ∙ (λ j. drop (back j) (run cs (h.leaf * 64) h.len) ++ empty j) ∙ append-nil (drop n (run cs (h.leaf * 64) h.len)) in
-    subst (λ xs. record { lists = map (list_of ds) (take (a.used + 1) xs); room = length xs } ≡ with_lists v (replaced v.lists i 1 (take n (get_or v.lists i []) ∷ drop n (get_or v.lists i []) ∷ [])))
+    subst (λ xs. record { lists = map (list_of ds) (take (a.used + 1) xs); room = length xs; resizes = a.resizes.count } ≡ with_lists v (replaced v.lists i 1 (take n (get_or v.lists i []) ∷ drop n (get_or v.lists i []) ∷ [])))
     (sym heads) (view-part cs ds hs a.used is i h e c.index-head.ensures f.lt free lt n k keeps small filled (omega (arith, f.small)) next (take n) (drop n) first second v c.self.view_is)

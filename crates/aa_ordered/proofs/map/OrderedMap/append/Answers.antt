@@ -12,5 +12,9 @@ each-preserved g c =
       all = (λ i. insert_all cmp (c.put_within.ensures.inserted i) (rest i)) ∙ step-all cmp es xs c.in-Some.key c.in-Some.item one ∙ inv.all;
       room = rw (c.put_within.ensures.inserted, rest, c.put_within.ensures.capacity) (step-room cmp es xs c.in-Some.key c.in-Some.item one c.each.self.capacity inv.room);
       capacity = c.put_within.ensures.capacity ∙ inv.capacity;
-      there = ap (λ (m : OrderedView g.row.K.Denot g.row.V.Denot). m.capacity) c.pop_first.ensures.removed ∙ inv.there;
+      resizes = c.put_within.ensures.resizes ∙ inv.resizes;
+      there = (
+        ap (λ (m : OrderedView _ _). m.capacity) c.pop_first.ensures.removed ∙ inv.there.0,
+        ap (λ (m : OrderedView _ _). m.resizes) c.pop_first.ensures.removed ∙ inv.there.1,
+      );
     }

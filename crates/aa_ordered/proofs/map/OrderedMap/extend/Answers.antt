@@ -1,23 +1,29 @@
-use Rattle.std.proofs.Common.{ap, arith, refl, sym, ◌∙◌}
-use Rattle.std.specs.BTreeMap.{insert_entry}
+use Rattle.std.proofs.Common.{arith, refl, ◌∙◌}
 use Rattle.std.specs.Iterator.{size}
-use Rattle.std.specs.Prelude.{List, length, ◌<◌}
-use Rattle.aa_ordered.proofs.Extending.{fits-after, insert_all-push}
+use Rattle.std.specs.Prelude.{length, ◌<◌}
+use Rattle.aa_ordered.proofs.Extending.{fits-after, insert-more, stays-as}
 use Rattle.aa_ordered.proofs.map.OrderedMap.extend.Goals as goal
 
 pub each-init : goal.each-init
-each-init g c = record { inserted = refl; room = λ all. all c.into_iter-entry-iterator.result c.into_iter-entry-iterator.ensures.into_iter_gives }
+each-init g c = record {
+  inserted = record { entries = refl; capacity = omega arith; resizes = λ _. refl };
+  room = λ all. all c.into_iter-entry-iterator.result c.into_iter-entry-iterator.ensures.into_iter_gives;
+  steady = λ _. (refl, refl);
+}
 
 pub each-preserved : goal.each-preserved
 each-preserved g c =
-    let x = c.in-Some.entry in let inv = c.each.invariant in let left = g.U.IntoIter.Iterator.remaining in
+    let x = c.in-Some.entry in let inv = c.each.invariant in let left = g.U.IntoIter.Iterator.remaining in let e = c.in-Ok.ensures in
     let fewer = (c.in-Some.ensures.goes.on c.each.iterator.1).2 in let cmp = g.K.Ord.cmp in
     record {
-      inserted = c.in-Ok.ensures.inserted ∙ ap (λ (es : List (g.row.K.Denot × g.row.V.Denot)). insert_entry cmp es x.0 x.1) inv.inserted ∙ sym (insert_all-push cmp c.args.self.now.entries c.each.yielded x);
+      inserted = insert-more cmp c.args.self.now c.each.self c.insert.new.self c.each.yielded x inv.inserted e.inserted e.grown e.resizes;
       room = λ all.
           let had = inv.room all in
           let less : length c.each.self.entries < c.each.self.capacity = omega (arith, fewer, had) in
-          fits-after cmp x.0 x.1 c.each.self c.insert.new.self (size (left c.each.entry-iterator)) (size (left c.next.new.self)) fewer had c.in-Ok.ensures.inserted (c.in-Ok.ensures.capacity less);
+          fits-after cmp x.0 x.1 c.each.self c.insert.new.self (size (left c.each.entry-iterator)) (size (left c.next.new.self)) fewer had e.inserted (e.capacity less);
+      steady = λ all.
+          let less : length c.each.self.entries < c.each.self.capacity = omega (arith, fewer, inv.room all) in let kept = e.capacity less in
+          (kept ∙ (inv.steady all).0, stays-as c.each.self c.insert.new.self kept e.resizes ∙ (inv.steady all).1);
     }
 
 pub returns-in-Err-clause-extended : goal.returns-in-Err-clause-extended

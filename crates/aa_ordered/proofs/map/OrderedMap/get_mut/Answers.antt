@@ -12,7 +12,7 @@ returns-in-Ok g c =
     let k = c.args.key.now in let spot = c.in-Ok.spot in (
       same-lent _ _ _ (λ w.
           written-view g.K.Ord.cmp c.self.inside.leaves spot.list spot.at c.in-Ok.ensures.item c.item_mut.result.now c.item_mut.ensures.value w k c.in-Ok.ensures.found
-          ∙ ap (λ (m : OrderedView g.row.K.Denot g.row.V.Denot). record { entries = with_value g.K.Ord.cmp m.entries k w; capacity = m.capacity }) c.self.view_is),
+          ∙ ap (λ (m : OrderedView g.row.K.Denot g.row.V.Denot). record m { entries = with_value g.K.Ord.cmp m.entries k w }) c.self.view_is),
       record {
         writes_back = tt;
         value = got-value g.K.Ord.cmp k c.self.inside.leaves.lists spot.list spot.at c.in-Ok.ensures.item c.in-Ok.ensures.found c.item_mut.result.now c.item_mut.ensures.value

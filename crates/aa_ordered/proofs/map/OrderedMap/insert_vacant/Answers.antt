@@ -24,7 +24,7 @@ returns-in-Ok-insert_at g c = (
     refl,
     (λ w _.
         added-inserts g.K.Ord.cmp c.args.key c.self.inside.leaves c.args.self.now c.self.view_is _ c.in-Err.ensures.absent c.args.item c.insert_at.new.leaves c.in-Ok-insert_at.ensures.inserted c.in-Ok-insert_at.to.list c.in-Ok-insert_at.to.at
-        c.in-Ok-insert_at.ensures.item c.in-Ok-insert_at.ensures.place c.item_mut.result.now c.item_mut.ensures.value c.insert_at.ensures.room c.insert_at.ensures.grown w),
+        c.in-Ok-insert_at.ensures.item c.in-Ok-insert_at.ensures.place c.item_mut.result.now c.item_mut.ensures.value c.insert_at.ensures.room c.insert_at.ensures.grown c.insert_at.ensures.resizes w),
     tt,
   ),
   record {

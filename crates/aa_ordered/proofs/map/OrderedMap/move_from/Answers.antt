@@ -11,8 +11,11 @@ each-preserved g c =
     let s = subst (IsOrdered cmp) (sym inv.all) c.requires.ordered in record {
       all = (λ i. front i ++ c.put_within.ensures.inserted i) ∙ ap (λ zs. take (length xs - 1) xs ++ zs) (front-inserted cmp xs ys e last s) ∙ moved-all cmp xs ys e last ∙ inv.all;
       within = omega (arith, ap length front, moved-length cmp xs ys e last, c.each-test.true, c.len.ensures.len);
-      capacity = ap (λ (m : OrderedView g.row.K.Denot g.row.V.Denot). m.capacity) c.pop_last.ensures.removed ∙ inv.capacity;
-      there = c.put_within.ensures.capacity ∙ inv.there;
+      held = (
+        ap (λ (m : OrderedView _ _). m.capacity) c.pop_last.ensures.removed ∙ inv.held.0,
+        ap (λ (m : OrderedView _ _). m.resizes) c.pop_last.ensures.removed ∙ inv.held.1,
+      );
+      there = (c.put_within.ensures.capacity ∙ inv.there.0, c.put_within.ensures.resizes ∙ inv.there.1);
     }
 
 pub unreachable-requires : goal.unreachable-requires

@@ -6,8 +6,8 @@ abbrev pub invariant-each : goal.invariant-each
 invariant-each g l = record {
   all : l.self.entries ++ l.rest.entries ≡ l.fn.self.entries;
   within : l.fn.at ≤ length l.self.entries;
-  capacity : l.self.capacity ≡ l.fn.self.capacity;
-  there : l.rest.capacity ≡ l.fn.rest.capacity;
+  held : (l.self.capacity ≡ l.fn.self.capacity) × (l.self.resizes ≡ l.fn.self.resizes);
+  there : (l.rest.capacity ≡ l.fn.rest.capacity) × (l.rest.resizes ≡ l.fn.rest.resizes);
 }
 
 abbrev pub decreases-each : goal.decreases-each

@@ -2,4 +2,4 @@ use Rattle.aa_ordered.proofs.Sound.{no-entries}
 use Rattle.aa_ordered.proofs.map.OrderedMap.new_in.Goals as goal
 
 pub invariant_of-result : goal.invariant_of-result
-invariant_of-result g c = rw c.new_in.ensures (no-entries g.K.Ord.cmp 0)
+invariant_of-result g c = rw c.new_in.ensures (no-entries g.K.Ord.cmp 0 0)

@@ -12,4 +12,4 @@ returns-in-Some-clause-first g c = sym c.remove_at-first.ensures.item ∙ first-
 
 pub returns-in-Some-clause-removed : goal.returns-in-Some-clause-removed
 returns-in-Some-clause-removed g c =
-    cut-first g.K.Ord.cmp c.self.inside.leaves c.remove_at-first.new.leaves _ c.remove_at-first.ensures.removed c.args.self.now c.self.view_is c.remove_at-first.ensures.room c.in-Some.ensures.first
+    cut-first g.K.Ord.cmp c.self.inside.leaves c.remove_at-first.new.leaves _ c.remove_at-first.ensures.removed c.args.self.now c.self.view_is c.remove_at-first.ensures.room c.remove_at-first.ensures.resizes c.in-Some.ensures.first

@@ -12,4 +12,4 @@ returns-in-Some-clause-last g c = sym c.remove_at-last.ensures.item ∙ last-get
 
 pub returns-in-Some-clause-removed : goal.returns-in-Some-clause-removed
 returns-in-Some-clause-removed g c =
-    cut-last g.K.Ord.cmp c.self.inside.leaves c.remove_at-last.new.leaves _ c.remove_at-last.ensures.removed c.args.self.now c.self.view_is c.remove_at-last.ensures.room c.in-Some.ensures.last
+    cut-last g.K.Ord.cmp c.self.inside.leaves c.remove_at-last.new.leaves _ c.remove_at-last.ensures.removed c.args.self.now c.self.view_is c.remove_at-last.ensures.room c.remove_at-last.ensures.resizes c.in-Some.ensures.last

@@ -13,7 +13,7 @@ returns-in-Ok-clause-old g c = present-entry g.K.Ord.cmp c.args.key.now c.self.i
 pub returns-in-Ok-clause-removed : goal.returns-in-Ok-clause-removed
 returns-in-Ok-clause-removed g c =
     present-without g.K.Ord.cmp c.args.key.now c.self.inside.leaves c.args.self.now c.self.view_is _ c.in-Ok.ensures.found c.remove_at-entry.result c.remove_at-entry.ensures.item
-    c.remove_at-entry.new.leaves c.remove_at-entry.ensures.removed c.remove_at-entry.ensures.room
+    c.remove_at-entry.new.leaves c.remove_at-entry.ensures.removed c.remove_at-entry.ensures.room c.remove_at-entry.ensures.resizes
 
 pub returns-in-Err-clause-old : goal.returns-in-Err-clause-old
 returns-in-Err-clause-old g c = sym (absent-entry g.K.Ord.cmp c.args.key.now c.self.inside.leaves c.args.self.now c.self.view_is _ c.in-Err.ensures.absent)

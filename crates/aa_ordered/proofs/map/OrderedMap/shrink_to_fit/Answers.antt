@@ -1,5 +1,5 @@
 use Rattle.std.proofs.lemmas.Result.{IfErr-weaker, on_ok_weaker}
-use Rattle.aa_ordered.proofs.Fitting.{fitted, fitted-none, no-more, number-few, number-less}
+use Rattle.aa_ordered.proofs.Fitting.{fitted, fitted-none, no-more, number-few, number-less, shrunk-resizes}
 use Rattle.aa_ordered.proofs.map.OrderedMap.shrink_to_fit.Goals as goal
 
 pub returns-clause-fits : goal.returns-clause-fits
@@ -16,3 +16,6 @@ returns-clause-error g c = IfErr-weaker c.shrink_to.result _ _ (number-few c.sel
 
 pub returns-clause-fewer : goal.returns-clause-fewer
 returns-clause-fewer g c = number-less c.self.inside.leaves c.args.self.now c.self.view_is c.self.invariant.balanced c.prove_bounds.ensures.lists c.shrink_to.result c.shrink_to.ensures.sufficient c.shrink_to.ensures.error
+
+pub returns-clause-resizes : goal.returns-clause-resizes
+returns-clause-resizes g c = shrunk-resizes c.self.inside.leaves c.args.self.now c.self.view_is c.shrink_to.new.self _ c.shrink_to.result c.shrink_to.ensures.shrunk c.shrink_to.ensures.unchanged

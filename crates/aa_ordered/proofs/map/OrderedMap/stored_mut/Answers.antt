@@ -21,9 +21,9 @@ returns g c =
       (
         refl,
         λ w.
-            ap (λ es. record { entries = es; capacity = capacity_of c.self.inside.leaves.room })
+            ap (λ es. record { entries = es; capacity = capacity_of c.self.inside.leaves.room; resizes = c.self.inside.leaves.resizes })
             (written-inserted g.K.Ord.cmp c.self.inside.leaves spot.list spot.at c.in-Ok.ensures.item c.item_mut.result.now c.item_mut.ensures.value w k c.in-Ok.ensures.found)
-            ∙ ap (λ (m : OrderedView g.row.K.Denot g.row.V.Denot). record { entries = insert_entry g.K.Ord.cmp m.entries k w; capacity = m.capacity }) c.self.view_is,
+            ∙ ap (λ (m : OrderedView g.row.K.Denot g.row.V.Denot). record m { entries = insert_entry g.K.Ord.cmp m.entries k w }) c.self.view_is,
       ),
       record {
         writes_back = tt;

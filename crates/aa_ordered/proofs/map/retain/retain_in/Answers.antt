@@ -21,6 +21,7 @@ each-preserved g c = record {
   balanced = c.visit-count.ensures.balanced;
   ordered = visit-ordered (goal.F-step g) g.K.Ord.cmp c.each.f (joined c.each.leaves.lists) _ (joined c.visit-count.new.leaves.lists) _ c.visit-count.new.f c.visit-count.ensures.visited c.each.invariant.ordered;
   room = c.visit-count.ensures.room ∙ c.each.invariant.room;
+  resizes = c.visit-count.ensures.resizes ∙ c.each.invariant.resizes;
   count = omega (arith, c.each.invariant.count, c.visit-count.ensures.count);
   item = c.settle-spot-in-each.ensures.item;
   end = λ h. c.settle-spot-in-each.ensures.place ∙ c.settle-spot-in-each.ensures.end h;

@@ -11,6 +11,7 @@ invariant-each g l = record {
   balanced : IsBalanced (lengths l.leaves.lists);
   ordered : IsOrdered g.K.Ord.cmp (joined l.leaves.lists);
   room : l.leaves.room ≡ l.fn.leaves.room;
+  resizes : l.leaves.resizes ≡ l.fn.leaves.resizes;
   count : l.removed + length (joined l.leaves.lists) ≡ length (joined l.fn.leaves.lists);
   item : l.spot.list < length l.leaves.lists → IsAt l.leaves.lists l.spot.list l.spot.at;
   end : length l.leaves.lists ≤ l.spot.list → position l.leaves.lists l.spot.list l.spot.at ≡ length (joined l.leaves.lists);
