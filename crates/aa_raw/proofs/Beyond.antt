@@ -5,8 +5,7 @@
 --     none-forgotten     what was after the run is forgotten
 --     grown_at_end     values put after the run, and a block that grows or shrinks
 --     emptied     drop_run, take_array, transfer and forget_from, before the block is dropped
-use Rattle.aa_raw.proofs.Common.{AreEmpty, Block, Bool, Err, IsRun, List, None, Ok, Option, ReserveResult, Reserves, Result, Some, [], ap, append_assoc, arith, cases_lt, cut_to, drop, drop-set, drop-set-lt, drop_all, drop_at, empty_places, false, get_or, get_or-drop, if◌then◌else◌, is_none, length, length-append, length-replicate, length-take, length-take-le, list_all, list_all-append, nat_tests, places, refl, replicate, slice_set, subst, suc, sym, take, take-set-le, take_at, take_more_set, true, usize_max, with_places, with_run, without, zero, zero-add, zst_places, ℕ, ◌&&◌, ◌++◌, ◌+◌, ◌-◌, ◌<◌, ◌==◌, ◌∙◌, ◌∷◌, ◌≡◌, ◌≤◌, list_all_at}
-use Rattle.aa_raw.specs.declared.collections.TryReserveError.{TryReserveError}
+use Rattle.aa_raw.proofs.Common.{AreEmpty, Block, Bool, Err, IsRun, List, None, Ok, Option, ReserveResult, Reserves, Result, Some, TryReserveError, [], ap, append_assoc, arith, cases_lt, cut_to, drop, drop-set, drop-set-lt, drop_all, drop_at, empty_places, false, get_or, get_or-drop, if◌then◌else◌, is_none, length, length-append, length-replicate, length-take, length-take-le, list_all, list_all-append, list_all_at, nat_tests, places, refl, replicate, slice_set, subst, suc, sym, take, take-set-le, take_at, take_more_set, true, usize_max, with_places, with_run, without, zero, zero-add, zst_places, ℕ, ◌&&◌, ◌++◌, ◌+◌, ◌-◌, ◌<◌, ◌==◌, ◌∙◌, ◌∷◌, ◌≡◌, ◌≤◌}
 use Rattle.aa_raw.proofs.Calls.{IsRun-with-below}
 use Rattle.aa_raw.proofs.Places.{length-with_run}
 use Rattle.aa_raw.proofs.Runs.{all-each, drop-with}

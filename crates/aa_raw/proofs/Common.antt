@@ -1,5 +1,5 @@
 -- The names from elsewhere that proofs here cite, passed on.
-pub use Rattle.aa_raw.specs.Block.{Block, ReserveResult, Reserves, cut_to, fresh, with_places, with_written, without}
+pub use Rattle.aa_raw.specs.Block.{Block, ReserveResult, Reserves, cut_to, fresh, grown_to, with_places, with_written, without}
 pub use Rattle.aa_raw.specs.Clones.{HoldsClones}
 pub use Rattle.aa_raw.specs.Growth.{amortized, new_capacity, usize_max}
 pub use Rattle.aa_raw.specs.Ownership.{each, fits_isize, capacity_bounds, row_shares, row_owns, place_owns, place_shares, token_for}
@@ -57,6 +57,7 @@ pub use denote.FollowSlice.{lends_Elements}
 pub use denote.Index.{row, whole_in, whole_out}
 pub use denote.Laws.{Is, Lawful, Typed, shows}
 unfoldable pub use denote.Memory.{cell_at, hidden_shr, lone, mem, part_at, part_of}
+pub use Rattle.aa_raw.specs.declared.collections.TryReserveError.{TryReserveError}
 pub use denote.Opens.{hide, unhide}
 pub use denote.Param.{ArrayAt, bounded, layout, layouts, number, param}
 pub use denote.Param.Laws.{Laws, array_at_laws, param_laws}
@@ -75,7 +76,10 @@ pub use denote.Steps.{closes, heard, nothing, opens, owned, peeks}
 pub use denote.Struct.Field.{RawPtr-field}
 pub use denote.Struct.Laws.{RawPtr-copy, field_copy}
 pub use denote.Struct.Lending.{Lends, Lends-both, Lends-false, Lends-first, Lends-nothing, Lends-said, lent_out, of_Lends}
+pub use denote.Struct.Members.{Member}
 pub use denote.Struct.Owning.{shape}
+pub use denote.Struct.Parts.{PartsBack}
+pub use denote.Struct.Pick.{field_back, field_out, rest_at}
 pub use denote.Struct.Struct.{Struct, Struct-Makes, within}
 pub use denote.Struct.Tuple.{Tuple, tuple_laws, tuple_type}
 pub use denote.Triple.Call.{calls_at, calls_at_last}
@@ -96,10 +100,7 @@ pub use types.ByLocal.{alloc_all, env, free_all, get, get_in, get_tag, is, lands
 pub use types.Kit.{ !, Goal, Item, Post as After, Seq, Soaks, Sq, Step, any_q, assume, at_ret, await, by, check, done, drop as lose, feq_i, feq_l, fjoin, fjoin3, flt_i, flt_l, fpack, fpick, frame, fsplit, fsplit3, given, group, join, keep, later, learn, move, now, pick, prop, qed, raw, regoal, rewrite, show, some, split, split3, step, suffices, updating, use0, use1, use2, use3, ‵, ⋆, ◌$◌, ◌∵◌, ◌⊛◌}
 pub use types.Logic.{Logic, sem}
 pub use types.Match.{in_variant, live, vrt}
+pub use types.Mut.{open_ref}
 pub use types.Part.{agg, look_in, store_in, sub, whole}
 pub use types.Run.{addr, align_word, and_then, assigns, assigns_last, bin, blocks, enter, exec, false_lit, first, fld, from, init, lit, load, look, no_more, of_opd, returns, size_word, stop, switches_on, true_lit, unit_lit}
 pub use types.SemTy.{Body as BodyAt, SemTy, cells}
-pub use denote.Struct.Members.{Member}
-pub use denote.Struct.Parts.{PartsBack}
-pub use denote.Struct.Pick.{field_back, field_out, rest_at}
-pub use types.Mut.{open_ref}

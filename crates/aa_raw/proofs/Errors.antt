@@ -1,8 +1,7 @@
 -- What the error of a failed allocation says, for collections that allocate.
-use Rattle.aa_raw.proofs.Common.{arith, le-mul_of_pos_right, nat_tests, refl, rules, suc, usize_max, zero, ℕ, ◌*◌, ◌<◌, ◌^◌, ◌≡◌, ◌≤◌}
+use Rattle.aa_raw.proofs.Common.{TryReserveError, arith, le-mul_of_pos_right, nat_tests, refl, rules, suc, usize_max, zero, ℕ, ◌*◌, ◌<◌, ◌^◌, ◌≡◌, ◌≤◌}
 use Rattle.aa_raw.specs.Errors.{error_for, AllocationFails, IsErrorFor}
 use Rattle.aa_raw.specs.Room.{LacksRoom}
-use Rattle.aa_raw.specs.declared.collections.TryReserveError.{TryReserveError}
 use Rattle.aa_raw.specs.declared.collections.TryReserveErrorKind.TheVariants.{CapacityOverflow}
 
 -- more than `isize::MAX` bytes are no block's

@@ -1,7 +1,7 @@
 -- The result of growth that keeps two runs.
-use Rattle.aa_raw.proofs.Common.{AreApart, AreJoined, AreParted, Block, IsFull, IsRun, List, None, Option, ReservesRuns, Some, ap, arith, both, drop, grown_with, inl, inr, length, length-map, length-replicate, length_refill, map, nat_tests, refl, replicate, rules, run, subst, sym, take, usize_max, with_run, ℕ, ◌++◌, ◌+◌, ◌-◌, ◌<◌, ◌∙◌, ◌≡◌, ◌≤◌}
+use Rattle.aa_raw.proofs.Common.{AreApart, AreJoined, AreParted, Block, IsFull, IsRun, List, None, Option, ReservesRuns, Some, ap, arith, both, drop, grown_to, grown_with, inl, inr, length, length-map, length-replicate, length_refill, map, nat_tests, refl, replicate, rules, run, subst, sym, take, usize_max, with_run, ℕ, ◌++◌, ◌+◌, ◌-◌, ◌<◌, ◌∙◌, ◌≡◌, ◌≤◌}
 use Rattle.aa_raw.proofs.Calls.{IsRun-transferred_there, IsRun-with-below, run-transferred_there}
-use Rattle.aa_raw.proofs.Places.{length-with_run, lengths}
+use Rattle.aa_raw.proofs.Places.{length-with_run, lengths, moved_over, with_none}
 use Rattle.aa_raw.proofs.Runs.{IsRun-joined, IsRun-same, cut-long, run-filled, run-split, run-with-above, run-with-below}
 
 pub AreApart-before : (a m b n : ℕ) → a + m ≤ b → AreApart (a, m) (b, n)
@@ -70,6 +70,11 @@ module _ {X A : Type 0} (size : ℕ) (old : Block X A) (first second : ℕ × �
       → both first second + k ≤ requested → requested ≤ usize_max → 0 < size → ReservesRuns size old first second k requested to (grown_with old first second to requested)
   ReservesRuns-grows full r s low high enough few has_size = grind (arith, nat_tests, length-two old.places first second r s requested to low high)
 
+-- the first run is at the beginning, and the second has no values
+pub grown_alone : {X A : Type 0} (b : Block X A) (first second : ℕ × ℕ) (to c : ℕ) → first.0 ≡ 0 → second.1 ≡ 0
+    → grown_with b first second to c ≡ grown_to b first.1 c
+grown_alone b first second to c at none = rw (at, none) (grind (arith, with_none, moved_over))
+
 module _ {X A : Type 0} (size : ℕ) (old : Block X A) (first second : ℕ × ℕ) (k requested : ℕ) (new : Block X A) (full : IsFull old first second k) (r : IsRun old.places first.0 first.1) (s : IsRun old.places second.0 second.1) where
   enough : (to : ℕ) → ReservesRuns size old first second k requested to new → both first second ≤ requested
   enough to made = let room = made.room in let capacity = made.capacity in grind (arith, nat_tests)
@@ -90,4 +95,4 @@ module _ {X A : Type 0} (size : ℕ) (old : Block X A) (first second : ℕ × �
       let n = second.1 in let all : both first second ≤ requested = enough (requested - n) made in let p = kept (requested - n) made (omega arith) (omega arith) in let same : requested - n ≡ length new.places - n = omega (arith, p.4) in
       record { before = p.0; front = p.1; after = rw (← same) p.2; back = rw (← same) p.3 }
 
-pub ruleset kept_runs = (lengths, nat_tests, length_refill, both-fit, length-left, IsRun-left, cut-left, ReservesRuns-unchanged, ReservesRuns-grows, AreJoined-made, AreParted-made)
+pub ruleset kept_runs = (grown_alone, lengths, nat_tests, length_refill, both-fit, length-left, IsRun-left, cut-left, ReservesRuns-unchanged, ReservesRuns-grows, AreJoined-made, AreParted-made)

@@ -17,7 +17,8 @@ impl<T, A: Allocator> RawVec<T, A> {
     /// A run is a pair of its first place and its length. Allocates only if the elements do not fit
     /// in the capacity, and then grows by the growth policy. The new block begins with the values
     /// of the first run, followed by those of the second. Each value moves once; other values are
-    /// forgotten. The old block is deallocated.
+    /// forgotten. The old block is deallocated. By the policy `InPlace`, a block that is full of
+    /// the first run is extended, if the allocator can.
     ///
     /// # Errors
     /// As for `try_reserve`: `CapacityOverflow`, or `AllocError` with the requested capacity. The
@@ -127,8 +128,11 @@ impl<T, A: Allocator> RawVec<T, A> {
         }
     }
 
-    // Grows to a new block of `capacity` places, with the first run at its beginning and the second
-    // from the place `to` on. Returns `false` if the allocation fails.
+    // Grows to `capacity` places, with the first run at the beginning and the second from the place
+    // `to` on. Returns `false` if the allocation fails.
+    //
+    // If the first run is at the beginning and the second has no values, the block grows as a
+    // vector's does, by the policy `InPlace` in place. Else both move to a new block.
     fn grow_with(
         &mut self,
         first: (usize, usize),
@@ -149,6 +153,9 @@ impl<T, A: Allocator> RawVec<T, A> {
         ensures grown { IsTrue result → self.new ≡ grown_with self.old first second to capacity }
         ensures unchanged { result ≡ false → self.new ≡ self.old }
     {
+        if first.0 == 0 && second.1 == 0 {
+            return self.grow_to(first.1, capacity);
+        }
         match new_row(&self.alloc, capacity) {
             Ok((mut row, claim)) => {
                 row.take_run(0, &mut self.row, first);
