@@ -1,13 +1,6 @@
 -- Items that are taken from an iterator and put into a block.
 use Rattle.aa_boxed.proofs.Costs.{Doubled, Doubled-grows, Doubled-put, Doubled-start, costs_to_collect}
-use Rattle.aa_boxed.specs.Slice.{CollectCost, empty_builder, shrunk, with_room}
-use Rattle.aa_raw.specs.Growths.{with_growth}
-use Rattle.std.specs.Prelude.{min}
-use Rattle.aa_boxed.proofs.Common.{Count, LowerAtMost, AllocError, Building, Doubling, Err, IfErr, IfOk, LacksRoom, List, None, Ok, Option, Result, Slice, Some, FromIterFails, FailsAtEnd, TryReserveError, WholeRun, Yields, Yields-more, YieldsWithLower, YieldsThen, [], amortized, ap, arith, finished, if◌then◌else◌, inl, min_capacity, length, length-append, nat_tests, refl, new_capacity, subst, sym, total_runs, usize_max, with_pushed, ℕ, ◌++◌, ◌+◌, ◌<◌, ◌==◌, ◌∙◌, ◌∷◌, ◌≡◌, ◌≤◌}
-
--- n items that fill their capacity are no fewer than the places of a new block
-over_start : (size n : ℕ) → (size ≡ 0 → usize_max ≤ n) → n < new_capacity size 0 → ⊥
-over_start size n many h = grind (arith, nat_tests)
+use Rattle.aa_boxed.proofs.Common.{AllocError, Building, CollectCost, Count, Doubling, Err, FailsAtEnd, FromIterFails, IfErr, IfOk, LacksRoom, List, LowerAtMost, None, Ok, Option, Result, Slice, Some, TryReserveError, WholeRun, Yields, Yields-more, YieldsThen, YieldsWithLower, [], amortized, ap, arith, empty_builder, finished, if◌then◌else◌, inl, length, length-append, min, min_capacity, nat_tests, new_capacity, refl, shrunk, subst, sym, total_runs, usize_max, with_growth, with_pushed, with_room, ℕ, ◌++◌, ◌+◌, ◌<◌, ◌==◌, ◌∙◌, ◌∷◌, ◌≡◌, ◌≤◌}
 
 -- the lower bound is n at the end, and 0 before
 abbrev lower_at_end : (n : ℕ) → ℕ → ℕ
@@ -41,16 +34,6 @@ module _ {S T : Type 0} (steps : S → Option T → S → Type 0) where
       pub zst : size ≡ 0 → usize_max ≤ f.capacity
       pub cost : Doubled size f.capacity (length f.items) (left iter) f.grown
       pub fewer : length f.items + left s ≤ left iter
-
-    pub Coming-start : (f : Building T A) → f ≡ empty_builder size 0 Doubling alloc → Coming iter f
-    Coming-start f e = subst (λ b. Coming iter b) (sym e) (record {
-      came = refl;
-      grows = refl;
-      over = refl;
-      zst = λ z. grind (arith, nat_tests, z);
-      cost = Doubled-start size (left iter);
-      fewer = omega arith;
-    })
 
     module _ (s : S) (f : Building T A) (p : Coming s f) where
       pub Coming-ends : (u : S) → steps s None u → YieldsThen steps iter f.items None u
@@ -111,6 +94,3 @@ module _ {S T : Type 0} (steps : S → Option T → S → Type 0) where
             yields = yields_at_end remaining iter (f.items ++ x ∷ []) t (Yields-more steps iter f.items s x t p.came step) yields tells;
             outcome = (refl, f.items, x, refl, many, rw (sym full, p.grows, asked) at lacks);
           })
-
-          pub Coming-over : left iter ≤ new_capacity size 0 → ⊥
-          Coming-over few = over_start size (length f.items) many (omega (arith, few, p.fewer, on))

@@ -1,10 +1,6 @@
 -- What a block costs that doubles while items come and is then shrunk to them.
 use Rattle.aa_raw.proofs.Costs.{FewBlocks-grows, FewBlocks-more, FewBlocks-none, FewPlaces, FewPlaces-grows, FewPlaces-none}
-use Rattle.aa_raw.specs.Growths.{FewBlocks, Growths, of_new, with_growth, with_shrink}
-use Rattle.std.proofs.Common.{Bool, false, max, ◌*◌, ◌-◌, ◌^◌}
-use Rattle.std.proofs.Math.Nat.{pow-succ'}
-use Rattle.aa_boxed.proofs.Common.{Doubling, amortized, ap, arith, if◌then◌else◌, inl, inr, min_capacity, nat_tests, new_capacity, refl, subst, suc, sym, true, zero, ℕ, ◌+◌, ◌<◌, ◌==◌, ◌≡◌, ◌≢◌, ◌≤◌}
-use Rattle.aa_boxed.specs.Slice.{CollectCost}
+use Rattle.aa_boxed.proofs.Common.{Bool, CollectCost, Doubling, FewBlocks, Growths, amortized, ap, arith, false, if◌then◌else◌, inl, inr, max, min_capacity, nat_tests, new_capacity, of_new, pow-succ', refl, subst, suc, sym, true, with_growth, with_shrink, zero, ℕ, ◌*◌, ◌+◌, ◌-◌, ◌<◌, ◌==◌, ◌^◌, ◌≡◌, ◌≢◌, ◌≤◌}
 
 -- no block was allocated
 abbrev free : Growths

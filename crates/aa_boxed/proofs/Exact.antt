@@ -1,8 +1,5 @@
 -- An iterator over the block of a boxed slice.
-use Rattle.aa_boxed.proofs.Common.{◌≡◌, ◌<◌, ◌≤◌, ℕ, length, arith, nat_tests, new_capacity, usize_max, Block, IsExactFor, IsRun, Slice, run, slice_of, length-run}
-use Rattle.std.specs.Prelude.{◌*◌, ◌^◌}
-use Rattle.std.proofs.Math.Nat.{le-mul_of_pos_right}
-use Rattle.aa_raw.proofs.Places.{same_or_not}
+use Rattle.aa_boxed.proofs.Common.{Block, IsExactFor, IsRun, Slice, arith, le-mul_of_pos_right, length, length-run, nat_tests, new_capacity, run, same_or_not, slice_of, usize_max, ℕ, ◌*◌, ◌<◌, ◌^◌, ◌≡◌, ◌≤◌}
 use Rattle.aa_raw.specs.IntoIter.{Remaining, remaining_in}
 
 module _ {T A : Type 0} (size n : ℕ) (b : Block T A) (s : Slice T A) (i : Remaining T A) where

@@ -1,7 +1,6 @@
 -- What a caller of the gap buffer closes its goals by, `#[tactic(auto, using(aa_gap::proofs::Callers::callers))]`: how much growth
 -- has moved in a text that began empty, and what memory it took.
-use Rattle.aa_gap.proofs.Common.{Buffer, Doubling, Edit, Edits, FewBlocks, Growth, GrowsWithin, List, Sparing, ap, arith, empty, inserts, len, nat_tests, subst, ℕ, ◌*◌, ◌+◌, ◌-◌, ◌≡◌, ◌≤◌}
-use Rattle.aa_raw.specs.Growths.{of_new}
+use Rattle.aa_gap.proofs.Common.{Buffer, Doubling, Edit, Edits, FewBlocks, GrowsWithin, Growth, List, Sparing, ap, arith, empty, inserts, len, nat_tests, of_new, subst, ℕ, ◌*◌, ◌+◌, ◌-◌, ◌≡◌, ◌≤◌}
 use Rattle.aa_gap.proofs.Pages.{most_held}
 
 -- no memory is needed for no elements

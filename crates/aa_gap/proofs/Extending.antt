@@ -1,16 +1,10 @@
 -- Items that are inserted into a gap buffer, one by one, and clones.
-use Rattle.aa_gap.proofs.Common.{Buffer, Insert, List, Option, Yields, [], ap, append_assoc, cursor, drop, empty, fold, inl, inr, len, length, length-append, nat_tests, arith, put, refl, subst, sym, take, with_edit, with_room, ℕ, ◌+◌, ◌++◌, ◌∙◌, ◌∷◌, ◌≡◌, ◌≤◌}
+use Rattle.aa_gap.proofs.Common.{All, Buffer, Count, Drains, Err, Insert, List, Ok, OnOk, Option, Result, WholeRun, Yields, [], ap, append-nil, append_assoc, arith, cursor, drop, drop-append_seam, empty, fold, inl, inr, len, length, length-append, map, map-append, moved_to, nat_tests, put, refl, subst, sym, take, take-append_seam, with_edit, with_room, ℕ, ◌++◌, ◌+◌, ◌∙◌, ◌∷◌, ◌≡◌, ◌≤◌}
 use Rattle.aa_gap.proofs.Pages.{Made, Made-more, Made-none}
-use Rattle.aa_gap.specs.Buffer.{moved_to}
 use Rattle.aa_gap.specs.Extending.{HasInserted, Inserts, IsCopy, InsertsClones, ExtendFails}
 use Rattle.aa_raw.specs.declared.collections.TryReserveError.{TryReserveError}
-use Rattle.std.proofs.Math.Seq.{take-append_seam, drop-append_seam}
-use Rattle.std.proofs.lemmas.List.{append-nil, map-append}
 use Rattle.std.proofs.lemmas.List.Elements.{All-take, All-drop, length_all_zip, same_from_all_zip}
-use Rattle.std.specs.Iterator.{Count, Drains}
-use Rattle.std.specs.Iterator.Runs.{WholeRun}
 use Rattle.std.proofs.iter.runs.Consumers.{total_runs}
-use Rattle.std.specs.Prelude.{map, All, Err, Ok, OnOk, Result}
 
 -- the items that came, as one run
 module _ {S T E : Type 0} (steps : S → Option T → S → Type 0) (Gives : S → Type 0) where

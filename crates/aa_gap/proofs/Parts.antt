@@ -1,14 +1,10 @@
 -- Places in two parts with a gap between them, and how the calls of the block change them.
-use Rattle.std.specs.Prelude.{replicate, slice_set}
-use Rattle.std.proofs.Common.{get_or, suc, zero, ◌∷◌, ◌<◌, ◌≢◌, [], None}
 use Rattle.std.proofs.lemmas.Grind.{get_or-set_at}
-use Rattle.std.proofs.lemmas.List.{get_or_past, places}
 use Rattle.aa_raw.proofs.Beyond.{none-at, none-each}
-use Rattle.aa_raw.proofs.Places.{length-with_run}
 use Rattle.aa_raw.specs.Places.{AreEmpty, moved, with_run}
 use Rattle.aa_raw.specs.TwoRuns.{ReservesRuns}
-use Rattle.aa_gap.specs.GapBufferInner.{AreFree}
-use Rattle.aa_gap.proofs.Common.{cases_lt, inl, inr, AreApart-before, AreParted, Block, HasGap, IsRun, IsRun-first, IsRun-joined, IsRun-last, IsRun-long, IsRun-shifted_down, IsRun-moved-above, IsRun-of_none, IsRun-part, IsRun-shifted_up, IsRun-shifted_up-below, IsRun-set-above, IsRun-set-below, IsRun-take_first, IsRun-with-above, List, Option, ap, arith, drop, length, length-drop, length-moved, length-replicate, length-run, length-set, lengths, nat_tests, refl, rules, run, run-drop, run-shifted_down, run-moved-above, run-of_none, run-shifted_up, run-shifted_up-below, run-set-above, run-set-below, run-split, run-take, run-take_first, subst, sym, take, ℕ, ◌++◌, ◌+◌, ◌-◌, ◌∙◌, ◌≡◌, ◌≤◌}
+use Rattle.aa_gap.proofs.Common.{AreApart-before, AreFree, AreParted, Block, HasGap, IsRun, IsRun-first, IsRun-joined, IsRun-last, IsRun-long, IsRun-moved-above, IsRun-of_none, IsRun-part, IsRun-set-above, IsRun-set-below, IsRun-shifted_down, IsRun-shifted_up, IsRun-shifted_up-below, IsRun-take_first, IsRun-with-above, List, None, Option, [], ap, arith, cases_lt, drop, get_or, get_or_past, inl, inr, length, length-drop, length-moved, length-replicate, length-run, length-set, length-with_run, lengths, nat_tests, refl, replicate, rules, run, run-drop, run-moved-above, run-of_none, run-set-above, run-set-below, run-shifted_down, run-shifted_up, run-shifted_up-below, run-split, run-take, run-take_first, slice_set, subst, suc, sym, take, zero, ℕ, ◌++◌, ◌+◌, ◌-◌, ◌<◌, ◌∙◌, ◌∷◌, ◌≡◌, ◌≢◌, ◌≤◌}
+use Rattle.std.proofs.lemmas.List.{places}
 
 -- Places that are empty, and what the calls of a block leave of them.
 module _ {X : Type 0} where

@@ -1,9 +1,6 @@
 -- What runs of the iterators return.
-use Rattle.aa_gap.proofs.Common.{List, ap, length, length-append, take, take-append-add, ◌+◌, ◌++◌, ◌∙◌, ◌≡◌}
-use Rattle.std.proofs.Math.Seq.{take-length}
+use Rattle.aa_gap.proofs.Common.{List, YieldsFirst, YieldsInOrder, YieldsInReverse, YieldsLast, ap, length, length-append, take, take-append-add, take-length, ◌++◌, ◌+◌, ◌∙◌, ◌≡◌}
 use Rattle.std.proofs.iter.runs.Sources.{as_is, as_is_back, from_front, from_back}
-use Rattle.std.specs.Iterator.{YieldsFirst, YieldsLast}
-use Rattle.std.specs.Iterator.Runs.{YieldsInOrder, YieldsInReverse}
 use Rattle.aa_raw.specs.IntoIter.{Remaining}
 use Rattle.std.specs.Map.Iter.{TakesFirst, TakesLast, ShowsInOrder, ShowsInReverse, deref}
 

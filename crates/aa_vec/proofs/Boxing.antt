@@ -1,6 +1,5 @@
 -- A vector without spare capacity.
-use Rattle.aa_vec.proofs.Common.{◌≡◌, ℕ, ◌*◌, ◌^◌, ◌<◌, ◌≤◌, length, arith, nat_tests, usize_max, Block, IsRun, length-run, same_or_not, vector_in}
-use Rattle.std.proofs.Math.Nat.{le-mul_of_pos_right}
+use Rattle.aa_vec.proofs.Common.{Block, IsRun, arith, le-mul_of_pos_right, length, length-run, nat_tests, same_or_not, usize_max, vector_in, ℕ, ◌*◌, ◌<◌, ◌^◌, ◌≡◌, ◌≤◌}
 use Rattle.aa_boxed.specs.Room.{IsExactFor}
 use Rattle.aa_boxed.specs.Slice.{Slice, slice_of}
 use Rattle.aa_vec.specs.Boxes.{IsUnboxed}

@@ -1,6 +1,6 @@
 -- A slice for whose elements a closure was called in order, up to one place.
 use mathlib.Core.Bool.{beq}
-use Rattle.aa_vec.proofs.Common.{◌≡◌, not, ℕ, suc, ◌+◌, ◌<◌, ◌≤◌, Bool, true, false, List, [], ◌∷◌, ◌++◌, length, take, drop, get_or, sym, ap, ◌∙◌, subst, refl, arith, append_assoc, length-append, length-drop, slice_set, if◌then◌else◌, drop_all, take-append-drop, drop-set, drop-append-le, take_at, drop_at, length-take-le, nat_tests, rules, MayCallInOrder, MayChainFrom, MayDeduplicate, CallsUntil, ChainsAlong, CallsOnNeighbours, zero-add, drop-cons, take-set, take-append-le}
+use Rattle.aa_vec.proofs.Common.{◌≡◌, not, ℕ, suc, ◌+◌, ◌<◌, ◌≤◌, Bool, true, false, List, [], ◌∷◌, ◌++◌, length, take, drop, get_or, sym, ap, ◌∙◌, subst, refl, arith, append_assoc, length-append, length-drop, slice_set, if◌then◌else◌, drop_all, take-append-drop, drop-set, drop-append-le, take_at, drop_at, length-take-le, nat_tests, rules, MayCallInOrder, MayChainFrom, MayDeduplicate, CallsUntil, ChainsAlong, zero-add, drop-cons, take-set, take-append-le}
 
 module _ {T : Type 0} (ys : List T) (i : ℕ) (d : T) (h : i < length ys) where
   -- the elements from the index on
@@ -94,9 +94,20 @@ module _ {F T : Type 0} (Calls : F → T → T → Bool → F → T → T → Ty
   abbrev pub HasChained : F → List T → ℕ → F → List T → Type 0
   HasChained = Reached 1 (ChainsAlong Calls) (MayDeduplicate Calls Takes)
 
+  -- the closure was called for the element of `xs` after the one at the index, with that one, and `ys` are all, as they were left
+  pub record CallsOnNeighbours (f : F) (xs : List T) (at : ℕ) (result : Bool) (g : F) (ys : List T) : Type 0 where
+    pub first : T
+    pub second : T
+    pub others : List T
+    pub first_left : T
+    pub second_left : T
+    pub had : drop at xs ≡ first ∷ second ∷ others
+    pub called : Calls f second first result g second_left first_left
+    pub left : ys ≡ take at xs ++ first_left ∷ second_left ∷ others
+
   -- the closure was called at the border of two parts
   module _ {f : F} (xs a b : List T) (at : ℕ) (parts : xs ≡ a ++ b) (long : length a ≡ at + 1) (some : at + 1 < length xs) (d e : T) where
-    pub called_between : {answer : Bool} {g : F} {m y : T} → Calls f (get_or b 0 e) (get_or a at d) answer g y m → CallsOnNeighbours Calls f xs at answer g (slice_set a at m ++ slice_set b 0 y)
+    pub called_between : {answer : Bool} {g : F} {m y : T} → Calls f (get_or b 0 e) (get_or a at d) answer g y m → CallsOnNeighbours f xs at answer g (slice_set a at m ++ slice_set b 0 y)
     called_between {answer} {g} {m} {y} made = record {
       first = get_or a at d;
       second = get_or b 0 e;
@@ -113,7 +124,7 @@ module _ {F T : Type 0} (Calls : F → T → T → Bool → F → T → T → Ty
     pub next_pair : (l x : T) (others : List T) → drop i ys ≡ l ∷ x ∷ others → Takes h x l
     next_pair l x others e = (subst (MayDeduplicate Calls Takes h) e chained.may).0
 
-    module _ {answer : Bool} {g : F} {ws : List T} (asked : CallsOnNeighbours Calls h ys i answer g ws) where
+    module _ {answer : Bool} {g : F} {ws : List T} (asked : CallsOnNeighbours h ys i answer g ws) where
       answered : (b : Bool) → answer ≡ b → Calls h asked.second asked.first b g asked.second_left asked.first_left
       answered b e = subst (λ b. Calls h asked.second asked.first b g asked.second_left asked.first_left) e asked.called
 

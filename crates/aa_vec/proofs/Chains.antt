@@ -1,5 +1,5 @@
 -- Elements after a gap, for each of which a closure is called with the last one kept.
-use Rattle.aa_vec.proofs.Common.{◌≡◌, ℕ, ◌+◌, ◌<◌, ◌≤◌, Bool, true, false, List, [], ◌∷◌, ◌++◌, length, map, drop, Some, refl, sym, ap, ◌∙◌, subst, arith, length-append, drop_at, drop_all, length-map, take-append-drop, HasTail, LeavesInTail, tail_items, MayChainFrom, MayDeduplicate, ChainsUntil, CallsOnLast, ChainsOnTail, Vector, len, ChainsInTail}
+use Rattle.aa_vec.proofs.Common.{◌≡◌, ℕ, ◌+◌, ◌<◌, ◌≤◌, Bool, true, false, List, [], ◌∷◌, ◌++◌, length, map, drop, Some, refl, sym, ap, ◌∙◌, subst, arith, length-append, drop_at, drop_all, length-map, take-append-drop, HasTail, LeavesInTail, tail_items, MayChainFrom, MayDeduplicate, ChainsAlong, ChainsUntil, CallsOnLast, ChainsOnTail, Vector, len}
 use Rattle.aa_vec.proofs.Gaps.{borrowed-is, refilled, LeavesInTail-view, seen, there, within, IsFront-restored}
 use Rattle.aa_vec.proofs.Tails.{count, first_are, parts, replaced_are, replaced_tail}
 
@@ -9,6 +9,12 @@ module _ {T : Type 0} where
   split_last [] h = absurd (omega arith)
   split_last (x ∷ []) h = ([], x, refl)
   split_last (x ∷ y ∷ xs) h = let p = split_last (y ∷ xs) (omega arith) in (x ∷ p.0, p.1, ap (λ l. x ∷ l) p.2)
+
+-- the closure was called for the `n` elements of `old` after the gap, each with the one before it
+pub record ChainsInTail {F T A : Type 0} (Calls : F → T → T → Bool → F → T → T → Type 0) (f : F) (old : Vector T A) (gap n k : ℕ) (g : F) (new : Vector T A) : Type 0 where
+  pub left : List T
+  pub until : ChainsAlong Calls f (tail_items old gap n) k g left
+  pub leaves : LeavesInTail old gap n left new
 
 module _ {F T A : Type 0} (Calls : F → T → T → Bool → F → T → T → Type 0) (f : F) (v : Vector T A) (gap : ℕ) where
   module _ (n : ℕ) (some : 0 < n) (has_tail : HasTail v gap n) where

@@ -1,6 +1,5 @@
 -- What is written where gaps are closed: all kept elements after the first removed one, in one run for each removed one.
-use Rattle.aa_vec.proofs.Common.{◌≡◌, ℕ, zero, suc, ◌+◌, ◌-◌, ◌<◌, ◌≤◌, Bool, true, false, not, List, [], ◌∷◌, refl, sym, ap, ◌∙◌, arith, cond, min, kept_after_removed, map, run_count, moved_over, count_by}
-use Rattle.std.proofs.lemmas.List.Sums.{sum_by-cons}
+use Rattle.aa_vec.proofs.Common.{Bool, List, [], ap, arith, cond, count_by, false, kept_after_removed, map, min, moved_over, not, refl, run_count, suc, sum_by-cons, sym, true, zero, ℕ, ◌+◌, ◌-◌, ◌<◌, ◌∙◌, ◌∷◌, ◌≡◌, ◌≤◌}
 
 -- how many of the elements with these results will be written: all kept ones, once there is a gap
 abbrev pub still : (gap : ℕ) → List Bool → ℕ

@@ -1,6 +1,5 @@
 -- Clones of elements that are appended, one after another.
-use Rattle.std.proofs.lemmas.Grind.{common_steps}
-use Rattle.aa_vec.proofs.Common.{◌≡◌, ℕ, ◌+◌, ◌-◌, ◌<◌, ◌≤◌, List, [], ◌∷◌, ◌++◌, length, take, drop, get_or, replicate, refl, sym, ap, ◌∙◌, subst, arith, length-drop, length-take, length-replicate, take_all, take_at, TryReserveError, ClonesAreEqual, AppendsClones, AppendsCopies, Vector, len, GrowsTo, All, AllZip, replicate_more, get_or-replicate, get_or_append_left, get_or-drop, get_or-take, all_zip_more, same_from_all_zip, AssignsPart, RolledBack, AppendFails, Becomes, with_room, nat_tests}
+use Rattle.aa_vec.proofs.Common.{All, AllZip, AppendFails, AppendsClones, AppendsCopies, AssignsPart, Becomes, ClonesAreEqual, GrowsTo, List, RolledBack, TryReserveError, Vector, [], all_zip_more, ap, arith, common_steps, drop, get_or, get_or-drop, get_or-replicate, get_or-take, get_or_append_left, len, length, length-drop, length-replicate, length-take, nat_tests, refl, replicate, replicate_more, same_from_all_zip, subst, sym, take, take_all, take_at, with_room, ℕ, ◌++◌, ◌+◌, ◌-◌, ◌<◌, ◌∙◌, ◌∷◌, ◌≡◌, ◌≤◌}
 use Rattle.aa_raw.specs.declared.collections.TryReserveErrorKind.TheVariants.{AllocError}
 use Rattle.aa_vec.proofs.Becoming.{Becomes-more, Becomes-roomy, Becomes-then}
 use Rattle.aa_vec.proofs.GrowthLemmas.{MakesRoom-has}

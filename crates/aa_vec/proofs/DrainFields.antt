@@ -1,6 +1,5 @@
 -- A drain that is consumed, and a range from which elements were taken: the fields, and what a call requires that takes them.
-use Rattle.aa_vec.proofs.Common.{Ura, ent, sep, emp, mono∗, id⊢, ◌⊑◌, Lfts, fact, param, RattleType, named_lft, Declared, Ghosts, Logic, row}
-use denote.Laws.{Is, Makes}
+use Rattle.aa_vec.proofs.Common.{Declared, Ghosts, Is, Lfts, Logic, Makes, RattleType, Ura, emp, ent, fact, id⊢, mono∗, named_lft, param, row, sep, ◌⊑◌}
 use denote.Struct.Laws as laws
 use Rattle.aa_vec.specs.contracts.vec.Vec as V
 use Rattle.aa_vec.specs.contracts.vec.drain.Drain as D

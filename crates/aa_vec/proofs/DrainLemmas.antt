@@ -1,8 +1,8 @@
 -- Steps of a drain.
-use Rattle.aa_vec.proofs.Common.{re_v, ◌≡◌, ℕ, ◌+◌, ◌-◌, ◌<◌, ◌≤◌, List, [], ◌∷◌, ◌++◌, length, drop, Option, None, refl, sym, ap, ◌∙◌, subst, arith, length-append, length-drop, length-set, MutBor, slice_set, drop-drop, drop-set-add, drop-set-lt, IsRun, run, run-split, run-set-above, IsRun-part, IsRun-set-above, length-run, HasTail, SetsTail, tail_items, Vector, len, ClosesTwoGaps, Drain, Yields, YieldsInOrder, YieldsInReverse, run-none, DropsAndCloses, rules}
+use Rattle.aa_vec.proofs.Common.{Closes, ClosesTwoGaps, Drain, DrainKeeps, DropsAndCloses, HasTail, IsRun, IsRun-part, IsRun-set-above, KeepsRest, List, MutBor, None, Option, SetsTail, TakesRange, Vector, Yields, YieldsInOrder, YieldsInReverse, [], ap, arith, drain_tail, drains_first, drains_last, drop, drop-drop, drop-set-add, drop-set-lt, len, length, length-append, length-drop, length-run, length-set, re_v, refl, rules, run, run-none, run-set-above, run-split, slice_set, subst, sym, tail_items, ℕ, ◌++◌, ◌+◌, ◌-◌, ◌<◌, ◌∙◌, ◌∷◌, ◌≡◌, ◌≤◌}
+use Rattle.aa_vec.specs.Drain.{drain_remaining}
 use Rattle.std.proofs.iter.runs.Sources.{from_front, from_back, as_is, as_is_back}
 use Rattle.aa_vec.proofs.Gaps.{run-of_drop, IsRun-to_drop}
-use Rattle.aa_vec.specs.Drain.{Closes, KeepsRest, TakesRange, DrainKeeps, drain_remaining, drain_tail, drains_first, drains_last}
 use Rattle.aa_vec.proofs.Becoming.{Becomes-refl, Becomes-then}
 use Rattle.aa_vec.proofs.TailLemmas.{part_tail, later_part}
 use Rattle.aa_vec.proofs.Tails.{first_are}

@@ -1,7 +1,7 @@
 -- Calls that take elements out of a range.
-use Rattle.aa_vec.proofs.Common.{re_v, ◌≡◌, ℕ, ◌+◌, ◌-◌, ◌≤◌, Bool, false, not, List, [], ◌∷◌, ◌++◌, length, drop, Option, refl, sym, ap, ◌∙◌, arith, length-append, zero-add, MutBor, take-append-drop, run-zero, HasTail, SetsTail, ClosesTwoGaps, tail_items, MayCallInOrder, ClosesExtract, ExtractsRange, Extracts, KeepsWhen, Picks, Vector, len, ExtractBy, run, rules}
+use Rattle.aa_vec.proofs.Common.{Bool, ClosesExtract, ClosesTwoGaps, ExtractBy, Extracts, ExtractsRange, HasTail, KeepsWhen, List, MayCallInOrder, MutBor, Option, Picks, SetsTail, Vector, [], ap, arith, drop, false, len, length, length-append, not, re_v, refl, rules, run, run-zero, sym, tail_items, take-append-drop, zero-add, ℕ, ◌++◌, ◌+◌, ◌-◌, ◌∙◌, ◌∷◌, ◌≡◌, ◌≤◌}
 use Rattle.aa_vec.specs.Drain.{drain_remaining}
-use Rattle.aa_vec.specs.Extract.{extract_kept, extract_remaining, extract_tail}
+use Rattle.aa_vec.specs.Extract.{extract_kept, extract_tail, extract_remaining}
 use Rattle.aa_vec.proofs.TailLemmas.{still_tail, still_are, part_tail, later_part}
 use Rattle.aa_vec.proofs.DrainLemmas.{range_held, range_drains}
 use Rattle.aa_vec.proofs.ExtractRuns.{asked_parts}

@@ -1,6 +1,5 @@
 -- What calls that take elements out of a range leave, one after the other.
-use Rattle.aa_vec.proofs.Common.{◌≡◌, ℕ, suc, ◌+◌, ◌-◌, ◌<◌, ◌≤◌, Bool, true, List, [], ◌∷◌, ◌++◌, length, map, take, drop, Option, Some, None, refl, sym, ap, ◌∙◌, subst, arith, inl, inr, append_assoc, length-append, length-drop, length-take, filter, Yields, append-nil, drop-drop, filter-append, length-map, Call, CalledInOrder, MayCallInOrder, IsCallableInOrder, kept, passed_over, Extracts, extract_kept, extract_remaining, ExtractBy, ExtractIf, MakesProgress, at_most, map-append, Extracted, ExtractsAlong, extract_count, extract_vec, EndsTrue, moved_over, run_count, Becomes}
-use Rattle.std.proofs.Math.Nat.{add_assoc}
+use Rattle.aa_vec.proofs.Common.{Becomes, Bool, Call, CalledInOrder, EndsTrue, ExtractBy, ExtractIf, Extracted, Extracts, ExtractsAlong, IsCallableInOrder, List, MakesProgress, MayCallInOrder, None, Option, Some, Yields, [], add_assoc, ap, append-nil, append_assoc, arith, at_most, drop, drop-drop, extract_count, extract_kept, extract_remaining, extract_vec, filter, filter-append, inl, inr, kept, length, length-append, length-drop, length-map, length-take, map, map-append, moved_over, passed_over, refl, run_count, subst, suc, sym, take, true, ℕ, ◌++◌, ◌+◌, ◌-◌, ◌<◌, ◌∙◌, ◌∷◌, ◌≡◌, ◌≤◌}
 use lib.Seq.{take-add}
 use Rattle.std.proofs.lemmas.List.Filters.{length-filter_both}
 use Rattle.aa_vec.proofs.Becoming.{Becomes-refl}

@@ -1,7 +1,5 @@
 -- The tail of a vector, and the gap before it, as the places of its block.
-use Rattle.aa_vec.proofs.Common.{◌≡◌, ℕ, ◌+◌, ◌-◌, ◌<◌, ◌≤◌, List, [], ◌∷◌, ◌++◌, length, map, take, drop, replicate, get_or, Option, Some, None, refl, sym, ap, ◌∙◌, subst, arith, nat_tests, length-append, length-drop, length-set, length-take, slice_set, if◌then◌else◌, ◌==◌, drop-append-le, drop-drop, drop-map, drop-take, drop-set, drop-set-add, drop-set-lt, length-map, length-replicate, length-take-le, take-append-drop, take_at, drop_at, IsRun, length-moved, length-run, IsRun-long, IsRun-part, drop-with, run-drop, run-filled, run-moved, run-moved-below, run-split, run-take, run-is, run-set-above, IsRun-set-above, HasTail, LeavesInTail, tail_items, Vector, len, view_of, IsFront, Inside, refill, length_refill, with_places, IsRun-with-below, length-with_run, first-filled, run-one, run-push, run-with-below, cut-long, IsFilled, run, moved, with_run, vector_in}
-use Rattle.aa_raw.specs.Block.{Block, with_moved, with_written}
-use Rattle.aa_raw.proofs.Places.{moved_one}
+use Rattle.aa_vec.proofs.Common.{Block, HasTail, Inside, IsFilled, IsFront, IsRun, IsRun-long, IsRun-part, IsRun-set-above, IsRun-with-below, LeavesInTail, List, None, Option, Some, Vector, [], ap, arith, cut-long, drop, drop-append-le, drop-drop, drop-map, drop-set, drop-set-add, drop-set-lt, drop-take, drop-with, drop_at, first-filled, get_or, if◌then◌else◌, len, length, length-append, length-drop, length-map, length-moved, length-replicate, length-run, length-set, length-take, length-take-le, length-with_run, length_refill, map, moved, moved_one, nat_tests, refill, refl, replicate, run, run-drop, run-filled, run-is, run-moved, run-moved-below, run-one, run-push, run-set-above, run-split, run-take, run-with-below, slice_set, subst, sym, tail_items, take, take-append-drop, take_at, vector_in, view_of, with_moved, with_places, with_run, with_written, ℕ, ◌++◌, ◌+◌, ◌-◌, ◌<◌, ◌==◌, ◌∙◌, ◌∷◌, ◌≡◌, ◌≤◌}
 
 -- if the places above two places are the same, so are the places as far above them
 pub further : {Y : Type 0} (ds es : List Y) (a b c d : ℕ) → a ≤ c → c + b ≡ d + a → drop a ds ≡ drop b es → drop c ds ≡ drop d es

@@ -1,7 +1,7 @@
 -- A struct by value that a function takes apart, and whose `&mut` it passes on for good. At the return it owes no struct, and so none of
 -- the facts of the struct's ghost fields.
 use Rattle.aa_vec.proofs.Walks.{ℕ, subst, List, [], ◌∷◌, Val, ‵, ◌∵◌, !, qed, fsplit, owns, fields}
-use Rattle.aa_vec.proofs.Common.{Ura, ent, sep, emp, emp∗, via, mono∗, id⊢, Logic, sem, ◌$◌, by, fpick, Lfts, fact, fact_use, fact_i, Are, Ises, owns_show, showss, RattleType, Valss, Declared, row, all_tell, valss, plain}
+use Rattle.aa_vec.proofs.Common.{Are, Declared, Ises, Lfts, Logic, RattleType, Ura, Valss, all_tell, by, emp, emp∗, ent, fact, fact_i, fact_use, fpick, id⊢, mono∗, owns_show, plain, row, sem, sep, showss, valss, via, ◌$◌}
 use types.Kit.{drop}
 use denote.Exit.{Kept, left}
 use denote.Struct.Laws as laws

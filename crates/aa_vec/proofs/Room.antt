@@ -1,6 +1,5 @@
 -- Capacity that the block reserved for a vector.
-use Rattle.aa_vec.proofs.Common.{◌≡◌, ℕ, ◌+◌, ◌-◌, ◌≤◌, [], ◌∷◌, ◌++◌, Some, length, refl, ap, ◌∙◌, arith, if◌then◌else◌, ◌==◌, slice_set, Block, with_written, IsRun, run, moved, amortized, min_capacity, length-run, Vector, len, run_count, with_room, view_of, IsFront, Inside, insert, nat_tests, Reserves, run-put, run-reserved, IsRun-reserved, Becomes, length-set, vector_in}
-use Rattle.aa_raw.proofs.Positions.{run-inserted, length-inserted}
+use Rattle.aa_vec.proofs.Common.{Becomes, Block, Inside, IsFront, IsRun, IsRun-reserved, Reserves, Some, Vector, [], amortized, ap, arith, if◌then◌else◌, insert, len, length, length-inserted, length-run, length-set, min_capacity, moved, nat_tests, refl, run, run-inserted, run-put, run-reserved, run_count, slice_set, vector_in, view_of, with_room, with_written, ℕ, ◌++◌, ◌+◌, ◌-◌, ◌==◌, ◌∙◌, ◌∷◌, ◌≡◌, ◌≤◌}
 use Rattle.aa_vec.proofs.Becoming.{Becomes-grows}
 use Rattle.aa_vec.proofs.GrowthLemmas.{MakesRoom}
 

@@ -1,10 +1,8 @@
 -- A splice that is consumed: its fields, of which the iterator has no machine value of its own, and what a call requires that takes them.
-use Rattle.aa_vec.proofs.Common.{◌∙◌}
+use Rattle.aa_vec.proofs.Common.{Ty, WT, WTs, flat, has_ty, has_tys, layout, mirs, named, of_list, vint, vstruct, w64, ◌∙◌}
 use Rattle.aa_vec.proofs.Walks.{◌≡◌, refl, sym, ap, subst, List, [], ◌∷◌, Val, sep, id⊢, ‵, ◌∵◌, !, qed, fsplit, feq_l, fact, unit, owns, fields}
 pub use Rattle.aa_vec.proofs.Common.{Vector, Ura, ent, emp, emp∗, via, mono∗, Logic, sem, ◌$◌, by, fpick, ◌⊑◌, Lfts, fact_use, fact_i, Are, Ises, owns_show, showss, param, RattleType, Valss, named_lft, Declared, row, Ghosts}
 use lib.Dec.{T}
-use mir.Syntax.{Ty, w64, named}
-use mir.Val.{has_ty, vint, vstruct, of_list, has_tys, WT, WTs}
 pub use base.Logic.{SProp, ex, ex_i}
 pub use types.Kit.{regoal, prop}
 pub use prog.Wp.{WpFn}
@@ -15,11 +13,9 @@ pub use denote.Triple.Clauses.{at_exit}
 pub use Rattle.std.proofs.raw_atomic.Walks.{proved_at}
 pub use Rattle.std.specs.Iterator.{IsFinite}
 pub use Rattle.aa_vec.proofs.GivenUp.{only_said, goes}
-use denote.Param.{layout}
 use denote.Param.Laws as param_law
 use denote.Param.Shared as shared
 use denote.Plain.{uint_Tells}
-use denote.RattleType.{flat, mirs}
 use denote.Ref.{mut_vals, mut_Tells}
 use denote.Struct.Field.{unit-field}
 use denote.Struct.Laws as laws

@@ -1,6 +1,5 @@
 -- Elements of the tail of a vector that are dropped, taken from either end, or moved down after others.
-use Rattle.aa_vec.proofs.Common.{◌≡◌, ℕ, ◌+◌, ◌-◌, ◌≤◌, List, drop, replicate, Option, None, refl, sym, ap, ◌∙◌, subst, arith, length-append, drop-drop, drop_at, length-replicate, IsRun, run, length-run, run-drop, IsRun-part, HasTail, ClosesGap, DropsTail, tail_items, with_spare, Vector, len, append_assoc, ◌++◌, ShiftsDown, ClosesTwoGaps, Becomes, moved_over, run_count}
-use Rattle.std.proofs.Math.Nat.{add_assoc}
+use Rattle.aa_vec.proofs.Common.{Becomes, ClosesGap, ClosesTwoGaps, DropsTail, HasTail, IsRun, IsRun-part, List, None, Option, ShiftsDown, Vector, add_assoc, ap, append_assoc, arith, drop, drop-drop, drop_at, len, length-append, length-replicate, length-run, moved_over, refl, replicate, run, run-drop, run_count, subst, sym, tail_items, with_spare, ℕ, ◌++◌, ◌+◌, ◌-◌, ◌∙◌, ◌≡◌, ◌≤◌}
 use Rattle.aa_vec.proofs.Gaps.{further, run-of_drop, IsRun-to_drop}
 
 module _ {T A : Type 0} where

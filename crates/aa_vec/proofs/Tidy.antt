@@ -1,19 +1,10 @@
 -- How many of the places from an index on hold values, after what calls of a block do to them.
 --     few_at_end      what is after the items, when elements are put there or taken, or the block grows or shrinks
-use Rattle.aa_vec.proofs.Common.{◌≡◌, ℕ, zero, suc, ◌+◌, ◌-◌, ◌<◌, ◌≤◌, List, [], ◌∷◌, Option, None, Some, get_or, length, take, drop, replicate, map, refl, ap, ◌∙◌, sym, subst, arith, inl, inr, cases_lt, nat_tests, length-take-le, length-replicate, length-set, drop-drop, drop_at, drop-set-lt, slice_set, count_by, IsRun, with_run, moved, cut-long, drop-with, length-with_run, Block, Reserves, count_from, Bool, true, false, usize_max, if◌then◌else◌, ◌==◌, ◌++◌, Ok, Err, TryReserveError, AreEmpty, length-drop, length-take, IsFilled, get_or-drop, drop-set-add, refill, with_places, Inside, IsWhole, HasTail, view_of, first-filled, zero-add}
-use Rattle.std.specs.Prelude.{cond, is_some, Result}
+use Rattle.aa_vec.proofs.Common.{AreEmpty, Block, Bool, Err, HasTail, Inside, IsFilled, IsRun, IsWhole, List, None, Ok, Option, ReserveResult, Reserves, Result, Some, TryReserveError, [], ap, arith, cases_lt, cond, count_by, count_by-le-length, count_from, cut-long, cut_to, drop, drop-drop, drop-set-add, drop-set-lt, drop-with, drop_at, false, first-filled, get_or, get_or-drop, get_or-set_at, if◌then◌else◌, inl, inr, is_some, length, length-drop, length-replicate, length-set, length-take, length-take-le, length-with_run, list_all, map, moved, nat_tests, none-at, none-fresh, none-unallocated, places, refill, refl, replicate, rules, slice_set, subst, suc, sum_by-append, sum_by-cons, sum_by-take-drop, sym, take, true, true≢false, usize_max, view_of, with_places, with_run, zero, zero-add, ℕ, ◌++◌, ◌+◌, ◌-◌, ◌<◌, ◌==◌, ◌∙◌, ◌∷◌, ◌≡◌, ◌≤◌}
 use Rattle.aa_raw.proofs.Calls.{with_room}
-use Rattle.std.proofs.Common.{rules}
-use Rattle.aa_raw.proofs.Beyond.{none-at, none-fresh, none-unallocated}
-use Rattle.aa_raw.specs.Block.{ReserveResult, cut_to}
 unfoldable use Rattle.aa_raw.specs.Places.{zst_places}
 use Rattle.aa_vec.proofs.Gaps.{IsRun-of_drop, full, restored, there, within, IsFront-restored}
-use Rattle.std.specs.List.{list_all}
-use Rattle.std.proofs.Common.{true≢false}
-use Rattle.std.proofs.lemmas.Grind.{get_or-set_at}
-use Rattle.std.proofs.lemmas.List.{places}
 use Rattle.std.proofs.lemmas.List.Folds.{sum_by-replicate}
-use Rattle.std.proofs.lemmas.List.Sums.{count_by-le-length, sum_by-append, sum_by-cons, sum_by-take-drop}
 
 module _ {X : Type 0} where
   abbrev some_in : List (Option X) → ℕ

@@ -77,30 +77,10 @@ module _ {F T : Type 0} (Calls : F → T → T → Bool → F → T → T → Ty
       (next : F) × (y : T) × (m : T) × (zs : List T) × Calls f x l false next y m
       × ChainsUntil next y xs k g zs × (ws ≡ m ∷ zs)
 
-  -- the closure was called for the element of `xs` after the one at the index, with that one. `ys`
-  -- are all, as they were left
-  pub record CallsOnNeighbours (f : F) (xs : List T) (at : ℕ) (result : Bool) (g : F)
-      (ys : List T) : Type 0 where
-    pub first : T
-    pub second : T
-    pub others : List T
-    pub first_left : T
-    pub second_left : T
-    pub had : drop at xs ≡ first ∷ second ∷ others
-    pub called : Calls f second first result g second_left first_left
-    pub left : ys ≡ take at xs ++ first_left ∷ second_left ∷ others
-
   -- the closure was called so for all elements of a list after its first
   abbrev pub ChainsAlong : F → List T → (k : ℕ) → F → List T → Type 0
   ChainsAlong f [] k g ws = ⊥
   ChainsAlong f (l ∷ xs) k g ws = ChainsUntil f l xs k g ws
-
-  -- the closure was called so for the `n` elements of `old` after the gap
-  pub record ChainsInTail {A : Type 0} (f : F) (old : Vector T A) (gap n k : ℕ) (g : F)
-      (new : Vector T A) : Type 0 where
-    pub left : List T
-    pub until : ChainsAlong f (tail_items old gap n) k g left
-    pub leaves : LeavesInTail old gap n left new
 
   -- the closure was called for the element after the gap, with the last item
   pub record CallsOnLast {A : Type 0} (f : F) (old : Vector T A) (gap : ℕ) (result : Bool) (g : F)

@@ -1,8 +1,5 @@
 -- What a list of commands added, where each adds at most one element.
-use Rattle.allocator_api2.proofs.Common.{◌≡◌, ℕ, ◌+◌, ◌-◌, ◌*◌, ◌≤◌, List, [], ◌∷◌, length, map, sum_by, sym, ap, subst, arith, rules, AllByRecursion, sum_by-cons, Growth, Vector, Command, Append, Reply, State, Calls, Turn, AddsOrRemoves, added, added_by, moves_each, RunsWithin, length-map}
-use Rattle.aa_raw.specs.Growths.{FewBlocks}
-use Rattle.aa_raw.proofs.Costs.{FewBlocks-more}
-use Rattle.allocator_api2.specs.Run.{AddsOneAtMost}
+use Rattle.allocator_api2.proofs.Common.{AddsOneAtMost, AddsOrRemoves, AllByRecursion, Append, Calls, Command, FewBlocks, FewBlocks-more, Growth, List, Reply, RunsWithin, State, Turn, Vector, [], added, added_by, ap, arith, length, length-map, map, moves_each, rules, subst, sum_by, sum_by-cons, sym, ℕ, ◌*◌, ◌+◌, ◌-◌, ◌∷◌, ◌≡◌, ◌≤◌}
 
 pub moves_each-le : (G : Growth) (grown paid n k : ℕ) → n ≤ k → grown ≤ paid + moves_each G * n → grown ≤ paid + moves_each G * k
 moves_each-le G grown paid n k le h = grind arith

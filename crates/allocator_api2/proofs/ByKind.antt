@@ -1,7 +1,5 @@
 -- A failed command is known by the kind of its error.
-use Rattle.allocator_api2.proofs.Common.{◌≡◌, ℕ, ◌+◌, ◌≤◌, [], sym, subst, TryReserveError, TryReserveErrorKind, Vector, Command, Refused, Performs}
-use Rattle.allocator_api2.specs.Machine.{InRange, Fits, FailsWith}
-use Rattle.allocator_api2.specs.Run.{cost_of}
+use Rattle.allocator_api2.proofs.Common.{Command, FailsWith, Fits, InRange, Performs, Refused, TryReserveError, TryReserveErrorKind, Vector, [], cost_of, subst, sym, ℕ, ◌+◌, ◌≡◌, ◌≤◌}
 
 module _ {T A sure : Type 0} {size : ℕ} {main side main' side' : Vector T A} {command : Command T A} {kind : TryReserveErrorKind} where
   pub failed_by_kind : (error : TryReserveError) → kind ≡ error.kind → InRange main command → ¬ Fits main side command → FailsWith size sure main side command error main' → side' ≡ side

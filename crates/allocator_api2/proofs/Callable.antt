@@ -1,7 +1,5 @@
 -- Closures that may be called as a run calls them: in states that remain good, and with any arguments.
-use Rattle.allocator_api2.proofs.Common.{ℕ, Bool, true, false, List, [], ◌∷◌, length, take, sym, subst, ⊤, rules, slice_range, Call, CalledInOrder, ChainsFrom, Deduplicated, Command, Retain, Dedup, ExtractIf, Reply, Done, State, Calls, Step, MayRun}
-use Rattle.aa_vec.specs.Choosing.{MayCallInOrder, MayChainFrom, MayDeduplicate}
-use Rattle.allocator_api2.specs.Run.{MayCall, IsCallableOnRuns}
+use Rattle.allocator_api2.proofs.Common.{Bool, Call, CalledInOrder, Calls, ChainsFrom, Command, Dedup, Deduplicated, Done, ExtractIf, IsCallableOnRuns, List, MayCall, MayCallInOrder, MayChainFrom, MayDeduplicate, MayRun, Reply, Retain, State, Step, [], false, length, rules, slice_range, subst, sym, take, true, ℕ, ⊤, ◌∷◌}
 
 module _ {T A K S : Type 0} (size : ℕ) (calls : Calls T A K S) where
   -- closures whose good states take every element, and lead to good states alone

@@ -1,6 +1,5 @@
 -- Neighbours in the deduplicated list were arguments of one call, and differ.
-use Rattle.allocator_api2.proofs.Common.{◌≡◌, Bool, true, false, List, [], ◌∷◌, sym, ap, ◌∙◌, subst, ChainsFrom}
-use Rattle.allocator_api2.specs.Laws.{NeighboursDiffer, TestsEquality, LeavesNoRepeats}
+use Rattle.allocator_api2.proofs.Common.{Bool, ChainsFrom, LeavesNoRepeats, List, NeighboursDiffer, TestsEquality, [], ap, false, subst, sym, true, ◌∙◌, ◌∷◌, ◌≡◌}
 
 module _ {T S : Type 0} (eq : T → T → Bool) (symmetric : (x y : T) → eq x y ≡ eq y x) (Repeats : S → T → T → Bool → S → T → T → Type 0) (tests : TestsEquality eq Repeats) where
   -- the last one kept comes first of what is left, as it was

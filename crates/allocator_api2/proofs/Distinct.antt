@@ -1,13 +1,11 @@
 -- Of a sorted list `dedup` leaves no two elements that are the same.
-use Rattle.std.proofs.Common.{◌≡◌, zero, suc, Bool, false, List, [], ◌∷◌, arith}
-use Rattle.std.specs.Prelude.{⊤}
+use Rattle.allocator_api2.proofs.Common.{Bool, List, [], arith, false, nat_tests, suc, zero, ⊤, ◌∷◌, ◌≡◌}
 use Rattle.std.specs.List.{AllByRecursion, IsDistinct, dedup_from}
 use Rattle.std.specs.List.Sorted.{IsSortedBy}
 use Rattle.std.specs.Cmp.{IsTotalOrder}
 use Rattle.std.specs.Ordering.{is_lt, eq_by_cmp}
 use Rattle.std.specs.declared.cmp.Ordering.{Ordering}
 use Rattle.std.proofs.lemmas.Bool.{cond_both}
-use Rattle.std.proofs.lemmas.Bool.Decides.{nat_tests}
 use Rattle.std.proofs.lemmas.List.Sorted.{ranks_by}
 use Rattle.allocator_api2.specs.Laws.{OrdersUpTo, LeavesDistinct}
 

@@ -1,6 +1,5 @@
 -- What follows if an extension failed.
-use Rattle.allocator_api2.proofs.Common.{ℕ, ◌+◌, ◌-◌, ◌≤◌, List, length, ap, ◌∙◌, arith, length-append, TryReserveError, Vector, Extends, GrowsInSteps-rises}
-use Rattle.std.specs.Prelude.{Err}
+use Rattle.allocator_api2.proofs.Common.{Err, Extends, GrowsInSteps-rises, List, TryReserveError, Vector, ap, arith, length, length-append, ℕ, ◌+◌, ◌-◌, ◌∙◌, ◌≤◌}
 
 module _ {T A : Type 0} (size : ℕ) (lower : ℕ → ℕ) (old : Vector T A) (xs added : List T) (error : TryReserveError) (new : Vector T A) (stop : Extends size lower old xs added (Err error) new) where
   -- the items did not fit

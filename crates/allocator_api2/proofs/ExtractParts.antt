@@ -1,14 +1,7 @@
 -- Elements that a run takes out of a range of main.
-use Rattle.allocator_api2.proofs.Common.{◌≡◌, ℕ, ◌+◌, ◌-◌, ◌<◌, ◌≤◌, Bool, List, [], ◌∷◌, ◌++◌, length, take, drop, Some, None, refl, sym, ap, arith, inl, inr, length-append, length-drop, length-take, slice_range, ◌⊎◌, append-nil, drop-drop, take-append-drop, Call, CalledInOrder, Vector, len, HasRoom, Holds, SameBlock, SameBlock-refl, SameBlock-trans, Chosen, State, state_with_keep, Holds-more}
-use Rattle.std.proofs.lemmas.List.{drop-append-le}
-use Rattle.aa_vec.specs.Choosing.{EndsTrue, IsCallableInOrder, kept, passed_over}
+use Rattle.allocator_api2.proofs.Common.{Bool, Call, CalledInOrder, Chosen, EndsTrue, Extracted-end, Extracted-more, ExtractedTo, ExtractedTo-none, HasRoom, Holds, Holds-more, IsCallableInOrder, List, None, SameBlock, SameBlock-becomes, SameBlock-refl, SameBlock-trans, Some, State, TakesOut, TakesUpTo, Vector, [], ap, append-nil, arith, asked_count, asked_parts, drop, drop-append-le, drop-drop, extracts_may, inl, inr, kept, len, length, length-append, length-drop, length-take, nat_tests, passed_over, refl, slice_range, state_with_keep, sym, take, take-append-drop, ℕ, ◌++◌, ◌+◌, ◌-◌, ◌<◌, ◌∷◌, ◌≡◌, ◌≤◌, ◌⊎◌}
 use Rattle.aa_vec.specs.Extract.{ClosesExtract, Extracts, ExtractsRange, extract_remaining, extract_tail}
 use Rattle.aa_vec.specs.declared.vec.extract_if.ExtractBy.{ExtractBy}
-use Rattle.aa_vec.proofs.Becoming.{SameBlock-becomes}
-use Rattle.aa_vec.proofs.ExtractRuns.{asked_parts, ExtractedTo, ExtractedTo-none, Extracted-more, Extracted-end, asked_count, extracts_may}
-use Rattle.std.proofs.lemmas.Bool.Decides.{nat_tests}
-use Rattle.allocator_api2.specs.RangeCommands.{TakesUpTo}
-use Rattle.allocator_api2.specs.Machine.{TakesOut}
 
 module _ {K T : Type 0} (Keeps : K → T → Bool → K → T → Type 0) where
   module _ {A : Type 0} where

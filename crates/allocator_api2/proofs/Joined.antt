@@ -1,6 +1,5 @@
 -- What was split off and appended again makes the same list.
-use Rattle.allocator_api2.proofs.Common.{◌≡◌, ℕ, zero, suc, ◌<◌, take, drop, refl, ap, ◌∙◌, arith, take-append-drop, Vector}
-use Rattle.allocator_api2.specs.Laws.{CutIsJoined}
+use Rattle.allocator_api2.proofs.Common.{CutIsJoined, Vector, ap, arith, drop, refl, suc, take, take-append-drop, zero, ℕ, ◌<◌, ◌∙◌, ◌≡◌}
 use Rattle.aa_vec.specs.Split.{Splits}
 
 module _ {T A : Type 0} (size : ℕ) (old head tail : Vector T A) where

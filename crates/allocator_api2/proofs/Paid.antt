@@ -1,12 +1,6 @@
 -- What a vector was moved by growth, and the blocks that it took, are paid for by what was added to it.
-use Rattle.allocator_api2.proofs.Common.{◌≡◌, ℕ, ◌+◌, ◌*◌, ◌-◌, ◌<◌, ◌≤◌, min, max, Option, None, ap, ◌∙◌, sym, arith, rules, Growth, Doubling, min_capacity, Vector, len, moves_each}
-use Rattle.std.specs.Prelude.{◌/◌}
-use Rattle.aa_raw.specs.declared.raw_vec.Growth.TheVariants.{InPlace, Sparing}
-use Rattle.aa_raw.specs.Growth.{amortized}
-use Rattle.aa_raw.specs.Growths.{FewBlocks, Growths}
-use Rattle.aa_raw.proofs.Costs.{FewPlaces, FewPlaces-grows, FewBlocks-grows, FewBlocks-more}
+use Rattle.allocator_api2.proofs.Common.{Doubling, FewBlocks, FewBlocks-grows, FewBlocks-more, FewPlaces, FewPlaces-grows, Growth, Growths, InPlace, MakesRoom, MakesRoom-fits, MakesRoom-grows, MakesRoom-rises, None, Option, Sparing, Vector, amortized, ap, arith, len, max, min, min_capacity, moves_each, rules, sym, ℕ, ◌*◌, ◌+◌, ◌-◌, ◌/◌, ◌<◌, ◌∙◌, ◌≡◌, ◌≤◌}
 use Rattle.aa_gap.proofs.Pages.{min_capacity-le}
-use Rattle.aa_vec.proofs.GrowthLemmas.{MakesRoom, MakesRoom-fits, MakesRoom-grows, MakesRoom-rises}
 use Rattle.allocator_api2.proofs.Added.{moves_each-le}
 use Rattle.allocator_api2.proofs.Steps.{Change, Moves, grown, kept}
 

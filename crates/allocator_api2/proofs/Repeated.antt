@@ -1,7 +1,5 @@
 -- A list many times over.
-use Rattle.allocator_api2.proofs.Common.{◌≡◌, ℕ, zero, suc, ◌+◌, ◌-◌, ◌*◌, ◌≤◌, List, [], ◌++◌, length, take, ap, ◌∙◌, arith, append_assoc, length-append, take_all, repeat, Doubling, Vector, IsNew, Holds, IsMadeWithin, WritesAtMost, SameBlock-refl}
-use Rattle.std.proofs.Common.{suc-mul}
-use Rattle.std.proofs.lemmas.List.{take-append-le}
+use Rattle.allocator_api2.proofs.Common.{Doubling, Holds, IsMadeWithin, IsNew, List, SameBlock-refl, Vector, WritesAtMost, [], ap, append_assoc, arith, length, length-append, repeat, suc, suc-mul, take, take-append-le, take_all, zero, ℕ, ◌*◌, ◌++◌, ◌+◌, ◌-◌, ◌∙◌, ◌≡◌, ◌≤◌}
 
 module _ {T : Type 0} (xs : List T) where
   pub length-repeat : (n : ℕ) → length (repeat n xs) ≡ n * length xs

@@ -1,7 +1,5 @@
 -- The capacity that a reserve made lasts for as many pushes.
-use Rattle.allocator_api2.proofs.Common.{ℕ, ◌+◌, ◌-◌, ◌≤◌, List, [], ◌∷◌, ◌++◌, length, length-append, ap, arith, rules, AllByRecursion, Vector, len, HasRoom, Within, Reply, Done, Replies, MakesRoom-has, ⊤}
-use Rattle.aa_vec.proofs.Becoming.{GrowsTo-becomes, Holds-becomes}
-use Rattle.allocator_api2.specs.Laws.{IsDone, PushesWithin, ReserveHolds}
+use Rattle.allocator_api2.proofs.Common.{AllByRecursion, Done, GrowsTo-becomes, HasRoom, Holds-becomes, IsDone, List, MakesRoom-has, PushesWithin, Replies, Reply, ReserveHolds, Vector, Within, [], ap, arith, len, length, length-append, rules, ℕ, ⊤, ◌++◌, ◌+◌, ◌-◌, ◌∷◌, ◌≤◌}
 
 module _ {T A : Type 0} (size : ℕ) where
   -- a push within the capacity succeeds, and leaves spare capacity for one fewer

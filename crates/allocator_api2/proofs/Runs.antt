@@ -1,7 +1,5 @@
 -- A run that is not at its end.
-use Rattle.allocator_api2.proofs.Common.{ℕ, ◌≡◌, ◌≤◌, max, List, [], ◌∷◌, ◌++◌, map, sym, subst, arith, ◌∙◌, append_assoc, refl, AllByRecursion, append-nil, Command, Reply, State, Calls, IsPossible, PerformsStep, Turn, IsRun, RunsWithin, AddsOrRemoves}
-use Rattle.std.proofs.lemmas.List.{map-append}
-use Rattle.allocator_api2.specs.Run.{greatest_length}
+use Rattle.allocator_api2.proofs.Common.{AddsOrRemoves, AllByRecursion, Calls, Command, IsPossible, IsRun, List, PerformsStep, Reply, RunsWithin, State, Turn, [], append-nil, append_assoc, arith, greatest_length, map, map-append, max, refl, subst, sym, ℕ, ◌++◌, ◌∙◌, ◌∷◌, ◌≡◌, ◌≤◌}
 use Rattle.allocator_api2.proofs.Paid.{places_for, places_for-le, places_for-sparing}
 use Rattle.allocator_api2.proofs.WholeRuns.{IsUnhinted, paid_from_empty, placed_from_empty, writes_law}
 

@@ -1,7 +1,5 @@
 -- A splice that failed did not fit.
-use Rattle.allocator_api2.proofs.Common.{◌≡◌, ℕ, ◌+◌, ◌-◌, ◌<◌, ◌≤◌, List, ◌++◌, length, take, drop, ap, ◌∙◌, arith, inl, inr, ◌⊎◌, length-append, length-take, length-drop, TryReserveError, Vector, len, SpliceFails}
-use Rattle.aa_vec.specs.SpliceItems.{Gapped, SplicesFront, gapped}
-use Rattle.allocator_api2.specs.Machine.{FitsRange}
+use Rattle.allocator_api2.proofs.Common.{FitsRange, Gapped, List, SpliceFails, SplicesFront, TryReserveError, Vector, ap, arith, drop, gapped, inl, inr, len, length, length-append, length-drop, length-take, take, ℕ, ◌++◌, ◌+◌, ◌-◌, ◌<◌, ◌∙◌, ◌≡◌, ◌≤◌, ◌⊎◌}
 use Rattle.allocator_api2.proofs.ExtendErrors.{stops-full}
 
 abbrev pub without_range : {T A : Type 0} → Vector T A → (start end : ℕ) → Gapped T A

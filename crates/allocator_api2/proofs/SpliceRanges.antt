@@ -1,8 +1,5 @@
 -- A range that was taken out of a vector and replaced by an `Items`.
-use Rattle.allocator_api2.proofs.Common.{◌≡◌, ℕ, ◌+◌, ◌*◌, ◌-◌, ◌≤◌, List, length, take, drop, Option, refl, ap, subst, arith, length-take, length-drop, ⊤, TryReserveError, TryReserveErrorKind, Vector, len, TakesRange, drain_vec, drain_tail, range_len, lower_bound_of, SpliceFails, Performs, Reply, Splice, Done, Refused}
-use Rattle.aa_vec.proofs.Becoming.{SameBlock-becomes}
-use Rattle.aa_vec.specs.Extend.{RemainingItems, takes_item, LowerExactly}
-use Rattle.aa_vec.specs.SpliceItems.{PutsWithin, SplicesAll, gapped}
+use Rattle.allocator_api2.proofs.Common.{Done, List, LowerExactly, Option, Performs, PutsWithin, Refused, RemainingItems, Reply, SameBlock-becomes, Splice, SpliceFails, SplicesAll, TakesRange, TryReserveError, TryReserveErrorKind, Vector, ap, arith, drain_tail, drain_vec, drop, gapped, len, length, length-drop, length-take, lower_bound_of, range_len, refl, subst, take, takes_item, ℕ, ⊤, ◌*◌, ◌+◌, ◌-◌, ◌≡◌, ◌≤◌}
 use Rattle.aa_vec.specs.declared.vec.drain.Drain.{Drain}
 use Rattle.aa_vec.proofs.Counted.{items_lower}
 use Rattle.aa_vec.proofs.SpliceByItems.{SplicesByAll, SplicesByFront, cut_off, SplicesAll-items, SpliceFails-items, SplicesAll-from, SpliceFails-from}

@@ -1,15 +1,8 @@
 -- What a step of the list machine does to main: it keeps its block, has grown once, or grew any number of times while it was full.
-use Rattle.allocator_api2.proofs.Common.{◌≡◌, ℕ, suc, ◌+◌, ◌-◌, ◌<◌, ◌≤◌, max, min, Bool, List, [], ◌∷◌, length, take, drop, None, Option, refl, sym, subst, ap, ◌∙◌, arith, rules, inl, inr, length-append, length-take, length-drop, Vector, len, SameBlock, Holds, Command, Push, Within, Pop, Insert, Remove, SwapRemove, Truncate, Clear, Append, Extend, Retain, Dedup, Drain, ExtractIf, Reply, Done, Item, Refused, Range, GrowsInSteps, Extends, lower_bound_of, TryReserveError, TryReserveErrorKind, State, Calls, Step, Replies, AddsOrRemoves, hint_of, added_by}
-use Rattle.std.proofs.Common.{length-set}
-use Rattle.std.specs.Prelude.{Result, Ok, Err, slice_set, slice_index_or}
+use Rattle.allocator_api2.proofs.Common.{AddsOrRemoves, Append, Becomes, Bool, Calls, Clear, Command, Dedup, Done, Drain, Ends, Err, Extend, Extends, ExtractIf, FailsWith, GrowsInSteps, GrowsTo-becomes, Holds, Holds-becomes, InRange, Insert, Item, List, MakesRoom, MakesRoom-has, MakesRoom-rises, MakesRoom-unchanged, None, Ok, Option, Pop, Push, Range, Refused, Remove, Replies, Reply, Result, Retain, SameBlock, SameBlock-refl, State, Step, Succeeds, SwapRemove, Truncate, TryReserveError, TryReserveErrorKind, Vector, Within, [], added_by, ap, arith, asked_count, asked_parts, asks, block_of, drop, ends_of, grown_room, grows, hint_of, inl, inr, len, length, length-append, length-drop, length-set, length-take, lower_bound_of, max, min, refl, remaining_of, rules, slice_index_or, slice_set, subst, suc, sym, take, unchanged, ℕ, ◌+◌, ◌-◌, ◌<◌, ◌∙◌, ◌∷◌, ◌≡◌, ◌≤◌}
+use Rattle.aa_vec.specs.Vector.{with_room}
 use Rattle.std.proofs.lemmas.Bool.{cases_lt}
-use Rattle.aa_vec.specs.Extend.{grows, unchanged}
-use Rattle.aa_vec.proofs.GrowthLemmas.{MakesRoom, MakesRoom-has, MakesRoom-rises, MakesRoom-unchanged, SameBlock-refl, asks, block_of, grown_room}
-use Rattle.aa_vec.specs.Vector.{Becomes, with_room}
-use Rattle.aa_vec.proofs.Becoming.{GrowsTo-becomes, Holds-becomes}
-use Rattle.aa_vec.proofs.ExtractRuns.{asked_count, asked_parts}
 use Rattle.allocator_api2.proofs.ExtractParts.{length-taken_out}
-use Rattle.allocator_api2.specs.Machine.{Ends, InRange, Succeeds, FailsWith, ends_of, remaining_of}
 
 length-remaining_of : {T : Type 0} (xs : List T) (ends : Ends) (keep : Bool) → ends.start ≤ ends.end → ends.end ≤ length xs → length (remaining_of xs ends keep) ≤ length xs
 length-remaining_of xs ends keep h l = grind (arith, length-append, length-take, length-drop)

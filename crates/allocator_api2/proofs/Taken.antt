@@ -1,8 +1,5 @@
 -- A command that returns a reply as the machine may is a step of the machine.
-use Rattle.allocator_api2.proofs.Common.{◌≡◌, ℕ, [], ◌<◌, refl, rules, results_of, Option, Vector, Command, Splice, SplitOff, Retain, Dedup, ExtractIf, Reply, Done, Performs, PerformsOnMain, PerformsStep, Calls, Step, Replies, state_with_keep, state_of, ⊤}
-use Rattle.aa_vec.specs.Choosing.{Deduplicates, Retains}
-use Rattle.allocator_api2.specs.Machine.{CallsNone, TakesOut}
-use Rattle.allocator_api2.specs.Commands.{TakesChosen}
+use Rattle.allocator_api2.proofs.Common.{Calls, CallsNone, Command, Dedup, Deduplicates, Done, ExtractIf, Option, Performs, PerformsOnMain, PerformsStep, Replies, Reply, Retain, Retains, Splice, SplitOff, Step, TakesChosen, TakesOut, Vector, [], refl, results_of, rules, state_of, state_with_keep, ℕ, ⊤, ◌<◌, ◌≡◌}
 
 -- the command clones no allocator, so that it does not matter whether a clone may fail
 abbrev ClonesNone : {T A : Type 0} → Command T A → Type 0

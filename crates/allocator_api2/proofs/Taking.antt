@@ -1,14 +1,8 @@
 -- Items taken out of a drain, one after the other, and appended to another vector.
-use Rattle.allocator_api2.proofs.Common.{◌≡◌, ℕ, ◌+◌, ◌-◌, ◌<◌, ◌≤◌, List, [], ◌∷◌, ◌++◌, length, take, drop, reverse, Bool, true, false, Some, refl, sym, ap, ◌∙◌, arith, append_assoc, length-append, length-take, length-drop, length-reverse, slice_range, append-nil, drop-drop, take_all, take-append-drop, reverse-append, TakesRange, drain_remaining, drain_tail, drain_vec, Vector, len, HasRoom, SameBlock, Holds, SameBlock-refl, SameBlock-trans, TakesFront, TakesBack, Holds-more}
-use Rattle.std.proofs.Math.Seq.{take-add}
-use Rattle.std.proofs.lemmas.List.{drop_all, drop_at, take_at, take-take}
-use Rattle.aa_vec.specs.Drain.{Closes, KeepsRest, drains_first, drains_last}
+use Rattle.allocator_api2.proofs.Common.{Bool, Closes, Drained, HasRoom, Holds, Holds-more, KeepsRest, List, SameBlock, SameBlock-becomes, SameBlock-refl, SameBlock-trans, Some, TakesBack, TakesFront, TakesRange, Vector, [], ap, append-nil, append_assoc, arith, drain_remaining, drain_tail, drain_vec, drained_of, drains_first, drains_last, drop, drop-drop, drop_all, drop_at, ends_at, false, len, length, length-append, length-drop, length-reverse, length-take, nat_tests, refl, reverse, reverse-append, slice_range, sym, take, take-append-drop, take-take, take_all, take_at, true, ℕ, ◌++◌, ◌+◌, ◌-◌, ◌<◌, ◌∙◌, ◌∷◌, ◌≡◌, ◌≤◌}
 use Rattle.aa_vec.specs.declared.vec.drain.Drain.{Drain}
-use Rattle.std.proofs.lemmas.Bool.Decides.{nat_tests}
-use Rattle.aa_vec.proofs.Becoming.{SameBlock-becomes}
+use Rattle.std.proofs.Math.Seq.{take-add}
 use Rattle.aa_vec.proofs.DrainLemmas.{keeps-same, keeps-then}
-use Rattle.allocator_api2.specs.RangeCommands.{Drained, ends_at}
-use Rattle.allocator_api2.specs.Machine.{drained_of}
 
 module _ {T A : Type 0} (d : Drain T A) (side : Vector T A) where
   abbrev all : List T

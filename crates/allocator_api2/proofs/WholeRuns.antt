@@ -1,9 +1,5 @@
 -- Laws over whole runs.
-use Rattle.allocator_api2.proofs.Common.{◌≡◌, ℕ, ◌+◌, ◌≤◌, max, List, [], ◌∷◌, map, length, sum_by, sym, ap, subst, refl, arith, AllByRecursion, sum_by-cons, Growth, None, len, Command, State, Calls, Turn, IsRun, AddsOrRemoves, hint_of, added}
-use Rattle.std.proofs.Common.{add-zero, zero-add}
-use Rattle.allocator_api2.specs.Run.{cost, greatest_length}
-use Rattle.aa_raw.specs.Growths.{Growths}
-use Rattle.aa_raw.proofs.Costs.{FewBlocks-none, FewPlaces-none}
+use Rattle.allocator_api2.proofs.Common.{AddsOrRemoves, AllByRecursion, Calls, Command, FewBlocks-none, FewPlaces-none, Growth, Growths, IsRun, List, None, State, Turn, [], add-zero, added, ap, arith, cost, greatest_length, hint_of, len, length, map, max, refl, subst, sum_by, sum_by-cons, sym, zero-add, ℕ, ◌+◌, ◌∷◌, ◌≡◌, ◌≤◌}
 use Rattle.allocator_api2.proofs.Paid.{IsPaid, IsPaid-change, IsPlaced, IsPlaced-change, Pays}
 use Rattle.allocator_api2.proofs.Steps.{change_of}
 

@@ -1,5 +1,4 @@
-use Rattle.allocator_api2.proofs.Common.{◌+◌, ◌≤◌, length, ap, ◌∙◌, arith}
-use Rattle.std.proofs.Common.{mul-le-mul_right, add-mul}
+use Rattle.allocator_api2.proofs.Common.{add-mul, ap, arith, length, mul-le-mul_right, ◌+◌, ◌∙◌, ◌≤◌}
 use Rattle.allocator_api2.proofs.Repeated.{length-repeat}
 use Rattle.allocator_api2.proofs.slice.put_repeated.Goals as goal
 

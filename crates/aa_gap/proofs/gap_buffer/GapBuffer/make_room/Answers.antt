@@ -1,5 +1,4 @@
-use Rattle.aa_gap.proofs.Common.{IsRun, ap, arith, length, length-run, ◌+◌, ◌-◌, ◌≤◌}
-use Rattle.std.proofs.Common.{◌<◌}
+use Rattle.aa_gap.proofs.Common.{IsRun, ap, arith, length, length-run, ◌+◌, ◌-◌, ◌<◌, ◌≤◌}
 use Rattle.aa_gap.proofs.Parts.{HasGap-parted, free-parted}
 use Rattle.aa_gap.proofs.gap_buffer.GapBuffer.make_room.Goals as goal
 

@@ -1,6 +1,5 @@
-use Rattle.std.proofs.Common.{◌≡◌, length}
+use Rattle.aa_gap.proofs.Common.{length, text, ◌≡◌}
 use Rattle.std.specs.Cmp.Lexicographic.{slice_cmp}
-use Rattle.aa_gap.specs.Buffer.{text}
 use Rattle.aa_gap.proofs.gap_buffer.compare.compare.Given as goal
 
 -- the remaining elements decide

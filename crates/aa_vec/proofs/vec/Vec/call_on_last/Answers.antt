@@ -1,8 +1,4 @@
-use Rattle.aa_vec.proofs.Common.{◌<◌, [], ◌∷◌, ◌++◌, refl, arith, length-run, length-set, HasTail, view_of}
-use Rattle.aa_raw.proofs.Firsts.{IsRun-set}
-use Rattle.aa_vec.proofs.Becoming.{Becomes-holds}
-use Rattle.aa_vec.proofs.Gaps.{there, last-item, taken-value, before, run-rewritten, drop-rewritten}
-use Rattle.aa_vec.proofs.Tidy.{few-beside}
+use Rattle.aa_vec.proofs.{Becomes-holds, HasTail, IsRun-set, [], arith, before, drop-rewritten, few-beside, last-item, length-run, length-set, refl, run-rewritten, taken-value, there, view_of, ◌++◌, ◌<◌, ◌∷◌}
 use Rattle.aa_vec.proofs.vec.Vec.call_on_last.Goals as goal
 
 pub invariant_of-self : goal.invariant_of-self

@@ -1,8 +1,5 @@
-use Rattle.aa_vec.proofs.Common.{◌<◌, arith, rules, ap, length, view_of, CalledAtPairMut, CallableAtPairMut}
+use Rattle.aa_vec.proofs.{CallableAtPairMut, CalledAtPairMut, IsWhole-restored, ap, arith, borrowed-is, count, length, rules, there, view_of, ◌<◌}
 use Rattle.aa_vec.proofs.Chains.{now_tail, borrowed, ChainsOnTail-more, ChainsOnTail-one, ChainsOnTail-repeat, first_is, may_follow}
-use Rattle.aa_vec.proofs.Gaps.{borrowed-is, there}
-use Rattle.aa_vec.proofs.Tails.{count}
-use Rattle.aa_vec.proofs.Tidy.{IsWhole-restored}
 use Rattle.aa_vec.proofs.vec.Vec.chain_on_tail.Goals.{else-this-lt2-via-then-this-lt2+else-count-lt2, else-this-lt2-via-else-this-lt2}
 use Rattle.aa_vec.proofs.vec.Vec.chain_on_tail.Goals as goal
 

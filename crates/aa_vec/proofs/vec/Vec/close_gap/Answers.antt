@@ -1,5 +1,4 @@
-use Rattle.aa_vec.proofs.Gaps.{there, within, IsRun-closed}
-use Rattle.aa_vec.proofs.Tidy.{few-lowered}
+use Rattle.aa_vec.proofs.{IsRun-closed, few-lowered, there, within}
 use Rattle.aa_vec.proofs.vec.Vec.close_gap.Goals as goal
 
 pub invariant_of-self : goal.invariant_of-self

@@ -1,7 +1,4 @@
-use Rattle.aa_vec.proofs.Common.{rules, arith}
-use Rattle.aa_vec.proofs.Becoming.{becomes}
-use Rattle.aa_vec.proofs.Gaps.{there, within, closed, IsRun-closed, moved-by_one}
-use Rattle.aa_vec.proofs.Tidy.{few-lowered, fewer}
+use Rattle.aa_vec.proofs.{IsRun-closed, arith, becomes, closed, few-lowered, fewer, moved-by_one, rules, there, within}
 use Rattle.aa_vec.proofs.vec.Vec.close_gap_by_one.Goals as goal
 
 pub invariant_of-self : goal.invariant_of-self

@@ -1,5 +1,4 @@
-use Rattle.aa_vec.proofs.Gaps.{borrowed-is}
-use Rattle.aa_vec.proofs.Tidy.{IsWhole-restored}
+use Rattle.aa_vec.proofs.{IsWhole-restored, borrowed-is}
 use Rattle.aa_vec.proofs.vec.Vec.count_kept_in_tail.Goals as goal
 
 pub invariant_of-self : goal.invariant_of-self

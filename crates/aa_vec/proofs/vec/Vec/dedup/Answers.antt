@@ -1,5 +1,4 @@
-use Rattle.aa_vec.proofs.Common.{refl, rules, Equals, Deduplicates}
-use Rattle.aa_vec.proofs.Forwarded.{Deduplicates-lent}
+use Rattle.aa_vec.proofs.{Deduplicates, Deduplicates-lent, Equals, refl, rules}
 use Rattle.aa_vec.proofs.PureTests.{Deduplicates_dedup}
 use Rattle.aa_vec.proofs.vec.Vec.dedup.Goals as goal
 

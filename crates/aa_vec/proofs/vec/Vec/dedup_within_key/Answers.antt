@@ -1,5 +1,4 @@
-use Rattle.aa_vec.proofs.Common.{rules, subst, ◌∙◌, CalledAtMut, ComparesKeys, CallableAtKeys}
-use Rattle.aa_vec.proofs.Forwarded.{Deduplicates-lent, IsCallableAlong-on}
+use Rattle.aa_vec.proofs.{CallableAtKeys, CalledAtMut, ComparesKeys, Deduplicates-lent, IsCallableAlong-on, rules, subst, ◌∙◌}
 use Rattle.aa_vec.proofs.PureTests.{Deduplicates_dedup}
 use Rattle.aa_vec.proofs.vec.Vec.dedup_within_key.Goals as goal
 

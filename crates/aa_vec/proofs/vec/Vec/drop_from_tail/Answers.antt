@@ -1,5 +1,4 @@
-use Rattle.aa_vec.proofs.Gaps.{there, within, IsRun-cleared}
-use Rattle.aa_vec.proofs.Tidy.{few-cleared}
+use Rattle.aa_vec.proofs.{IsRun-cleared, few-cleared, there, within}
 use Rattle.aa_vec.proofs.vec.Vec.drop_from_tail.Goals as goal
 
 pub invariant_of-self : goal.invariant_of-self

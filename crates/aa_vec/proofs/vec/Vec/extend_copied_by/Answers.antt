@@ -1,6 +1,5 @@
-use Rattle.aa_vec.proofs.Common.{None, subst, rules, IsNearerEnd, YieldsCopies, LowerAtMost}
+use Rattle.aa_vec.proofs.{Drains-read, ExtendResult-left, IsNearerEnd, LowerAtMost, None, YieldsCopies, rules, subst, whole_run}
 use Rattle.aa_vec.proofs.Outcomes.{on_ok, if_err}
-use Rattle.aa_vec.proofs.ExtendLemmas.{Drains-read, ExtendResult-left, whole_run}
 use Rattle.aa_vec.proofs.Reading.{Takes-read, stopped_read}
 use Rattle.aa_vec.proofs.vec.Vec.extend_copied_by.Goals as goal
 

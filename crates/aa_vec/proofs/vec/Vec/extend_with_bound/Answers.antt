@@ -1,5 +1,4 @@
-use Rattle.aa_vec.proofs.Common.{◌<◌, Vector, len, ap, refl, arith, length, length-append, ◌∷◌, [], err_from_is_err_and}
-use Rattle.aa_vec.proofs.ExtendLemmas.{Placing-start, Placing-filled, Placing-full, Placing-grown, Placing-fails, Placing-misfits, Placing-end}
+use Rattle.aa_vec.proofs.{Placing-end, Placing-fails, Placing-filled, Placing-full, Placing-grown, Placing-misfits, Placing-start, Vector, [], ap, arith, err_from_is_err_and, len, length, length-append, refl, ◌<◌, ◌∷◌}
 use Rattle.aa_vec.proofs.vec.Vec.extend_with_bound.Goals as goal
 
 pub full-init : goal.full-init

@@ -1,5 +1,4 @@
-use Rattle.aa_vec.proofs.Common.{◌+◌, ◌≤◌, type_size, size, len, IsFinite}
-use Rattle.aa_vec.proofs.ExtendLemmas.{Placing}
+use Rattle.aa_vec.proofs.{IsFinite, Placing, len, size, type_size, ◌+◌, ◌≤◌}
 use Rattle.aa_vec.proofs.vec.Vec.extend_with_bound.Given as goal
 
 abbrev pub invariant-full : goal.invariant-full

@@ -1,5 +1,4 @@
-use Rattle.aa_vec.proofs.Common.{rules}
-use Rattle.aa_vec.proofs.Filling.{FillsAndCloses-gap}
+use Rattle.aa_vec.proofs.{FillsAndCloses-gap, rules}
 use Rattle.aa_vec.proofs.vec.Vec.fill_and_close.Goals as goal
 
 pub returns-clause-filled : goal.returns-clause-filled

@@ -1,6 +1,4 @@
-use Rattle.aa_vec.proofs.Common.{rules}
-use Rattle.aa_raw.proofs.Positions.{at_positions}
-use Rattle.aa_vec.proofs.Tidy.{few-inserted, few-reserve}
+use Rattle.aa_vec.proofs.{at_positions, few-inserted, few-reserve, rules}
 use Rattle.aa_vec.proofs.vec.Vec.insert.Goals as goal
 
 pub invariant_of-self-2 : goal.invariant_of-self-2

@@ -1,5 +1,4 @@
-use Rattle.aa_vec.proofs.Common.{rules, length-set, drop-set-lt, length-run}
-use Rattle.aa_raw.proofs.Firsts.{run-set, run-at}
+use Rattle.aa_vec.proofs.Common.{drop-set-lt, length-run, length-set, rules, run-at, run-set}
 use Rattle.aa_vec.proofs.vec.Vec.item_mut.Goals as goal
 
 pub returns : goal.returns

@@ -1,6 +1,5 @@
-use Rattle.aa_vec.proofs.Common.{false, CalledAtMut, KeepsWhen}
+use Rattle.aa_vec.proofs.{CalledAtMut, KeepsWhen, closes_none, false}
 use Rattle.aa_vec.proofs.ExtractTurns.{asked_first, asked_down}
-use Rattle.aa_vec.proofs.Tails.{closes_none}
 use Rattle.aa_vec.proofs.vec.Vec.pass_over.Goals as goal
 
 pub close_gap-requires : goal.close_gap-requires

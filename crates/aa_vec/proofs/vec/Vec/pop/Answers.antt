@@ -1,7 +1,4 @@
-use Rattle.std.proofs.Common.{arith, rules}
-use Rattle.aa_raw.proofs.Calls.{at_ends}
-use Rattle.aa_vec.proofs.Becoming.{becomes}
-use Rattle.aa_vec.proofs.Tidy.{few-taken}
+use Rattle.aa_vec.proofs.{arith, at_ends, becomes, few-taken, rules}
 use Rattle.aa_vec.proofs.vec.Vec.pop.Goals as goal
 
 pub returns-clause-cases : goal.returns-clause-cases

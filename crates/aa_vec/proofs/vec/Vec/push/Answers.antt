@@ -1,6 +1,5 @@
-use Rattle.aa_vec.proofs.Common.{rules}
-use Rattle.aa_raw.proofs.Calls.{at_ends, with_room}
-use Rattle.aa_vec.proofs.Tidy.{few-put, few-reserve}
+use Rattle.aa_vec.proofs.{at_ends, few-put, few-reserve, rules}
+use Rattle.aa_raw.proofs.Calls.{with_room}
 use Rattle.aa_vec.proofs.vec.Vec.push.Goals as goal
 
 pub invariant_of-self-2 : goal.invariant_of-self-2

@@ -1,6 +1,4 @@
-use Rattle.aa_vec.proofs.Common.{◌<◌, rules, arith, length-run}
-use Rattle.aa_raw.proofs.Positions.{at_positions}
-use Rattle.aa_vec.proofs.Tidy.{few-removed}
+use Rattle.aa_vec.proofs.{arith, at_positions, few-removed, length-run, rules, ◌<◌}
 use Rattle.aa_vec.proofs.vec.Vec.remove.Goals as goal
 
 pub invariant_of-self : goal.invariant_of-self

@@ -1,5 +1,5 @@
-use Rattle.aa_vec.proofs.Common.{rules, TakesAt, Reads}
-use Rattle.aa_vec.proofs.Forwarded.{Retains-on, IsCallableInOrder-on}
+use Rattle.aa_vec.proofs.{IsCallableInOrder-on, Retains-on, TakesAt, rules}
+use Rattle.aa_vec.proofs.Common.{Reads}
 use Rattle.aa_vec.proofs.Callers.{Retains_filter_reading}
 use Rattle.aa_vec.proofs.vec.Vec.retain.Goals as goal
 

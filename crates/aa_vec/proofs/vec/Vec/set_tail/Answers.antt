@@ -1,6 +1,4 @@
-use Rattle.aa_vec.proofs.Common.{◌≤◌, arith, length-run}
-use Rattle.aa_vec.proofs.Gaps.{IsRun-front}
-use Rattle.aa_vec.proofs.Tidy.{few-set_apart}
+use Rattle.aa_vec.proofs.{IsRun-front, arith, few-set_apart, length-run, ◌≤◌}
 use Rattle.aa_vec.proofs.vec.Vec.set_tail.Goals as goal
 
 pub invariant_of-self : goal.invariant_of-self

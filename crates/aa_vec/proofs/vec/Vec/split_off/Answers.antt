@@ -1,7 +1,5 @@
-use Rattle.aa_vec.proofs.Common.{ap, arith, rules}
-use Rattle.aa_raw.proofs.Beyond.{none-fresh}
+use Rattle.aa_vec.proofs.{ap, arith, few-none, none-fresh, rules}
 use Rattle.aa_raw.proofs.Calls.{with_room}
-use Rattle.aa_vec.proofs.Tidy.{few-none}
 use Rattle.aa_vec.proofs.vec.Vec.split_off.Goals as goal
 
 -- the new block is empty

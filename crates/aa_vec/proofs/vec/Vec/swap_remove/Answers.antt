@@ -1,6 +1,4 @@
-use Rattle.aa_vec.proofs.Common.{◌<◌, rules, arith, length-run}
-use Rattle.aa_raw.proofs.Positions.{at_positions}
-use Rattle.aa_vec.proofs.Tidy.{few-swapped, few-taken}
+use Rattle.aa_vec.proofs.{arith, at_positions, few-swapped, few-taken, length-run, rules, ◌<◌}
 use Rattle.aa_vec.proofs.vec.Vec.swap_remove.Goals as goal
 
 pub invariant_of-self : goal.invariant_of-self

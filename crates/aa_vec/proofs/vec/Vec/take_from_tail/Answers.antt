@@ -1,6 +1,4 @@
-use Rattle.aa_vec.proofs.Common.{◌+◌, None, arith, IsRun-set-above}
-use Rattle.aa_vec.proofs.Gaps.{there, within}
-use Rattle.aa_vec.proofs.Tidy.{few-taken_apart}
+use Rattle.aa_vec.proofs.{IsRun-set-above, None, arith, few-taken_apart, there, within, ◌+◌}
 use Rattle.aa_vec.proofs.vec.Vec.take_from_tail.Goals as goal
 
 pub invariant_of-self : goal.invariant_of-self

@@ -1,9 +1,4 @@
-use Rattle.std.proofs.Common.{rules}
-use Rattle.aa_vec.proofs.Common.{◌≡◌, ◌-◌, refl, ap, subst, arith, length-run, length-take-le, len, HasTail, OpensGap, view_of, type_size, param}
-use Rattle.aa_vec.proofs.Filling.{IsFront-raised, OpensGap-view, fits, gaps, widen_room}
-use Rattle.aa_vec.proofs.Becoming.{became}
-use Rattle.aa_vec.proofs.Gaps.{there, within}
-use Rattle.aa_vec.proofs.Tidy.{few-raised}
+use Rattle.aa_vec.proofs.{HasTail, IsFront-raised, OpensGap, OpensGap-view, ap, arith, became, few-raised, fits, gaps, len, length-run, length-take-le, param, refl, rules, subst, there, type_size, view_of, widen_room, within, ◌-◌, ◌≡◌}
 use Rattle.aa_vec.proofs.vec.Vec.widen.Goals as goal
 
 pub returns-in_err-try_reserve-clause-failed : goal.returns-in_err-try_reserve-clause-failed

@@ -1,6 +1,5 @@
-use Rattle.aa_vec.proofs.Common.{arith}
+use Rattle.aa_vec.proofs.{arith, stage-on}
 use Rattle.aa_vec.proofs.Deduplicating.{chained-start, chained-turn, Deduplicates-ended}
-use Rattle.aa_vec.proofs.Stages.{stage-on}
 use Rattle.aa_vec.proofs.vec.dedup.dedup_owned.Goals as goal
 
 pub chain_on_tail-first-requires : goal.chain_on_tail-first-requires

@@ -1,6 +1,5 @@
-use Rattle.aa_vec.proofs.Common.{◌-◌, ◌<◌, take, drop, len, CalledAtPairMut, CallableAtPairMut}
+use Rattle.aa_vec.proofs.{CallableAtPairMut, CalledAtPairMut, Stage, drop, len, take, ◌-◌, ◌<◌}
 use Rattle.aa_vec.proofs.Deduplicating.{Told, May}
-use Rattle.aa_vec.proofs.Stages.{Stage}
 use Rattle.aa_vec.proofs.vec.dedup.dedup_owned.Given as goal
 
 abbrev pub invariant-runs : goal.invariant-runs

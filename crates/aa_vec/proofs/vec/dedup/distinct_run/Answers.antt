@@ -1,5 +1,4 @@
-use Rattle.aa_vec.proofs.Common.{rules, refl, arith, get_or, CalledAtPairMut, CallableAtPairMut}
-use Rattle.aa_vec.proofs.Calling.{Reached-none, HasChained-more, ChainsAlong-here, ChainsAlong-end, neighbours_are, called_between, next_pair}
+use Rattle.aa_vec.proofs.{CallableAtPairMut, CalledAtPairMut, ChainsAlong-end, ChainsAlong-here, HasChained-more, Reached-none, arith, called_between, get_or, neighbours_are, next_pair, refl, rules}
 use Rattle.aa_vec.proofs.vec.dedup.distinct_run.Goals as goal
 
 pub same-requires : goal.same-requires

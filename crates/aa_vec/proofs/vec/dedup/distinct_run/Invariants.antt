@@ -1,5 +1,4 @@
-use Rattle.aa_vec.proofs.Common.{◌-◌, CalledAtPairMut, CallableAtPairMut}
-use Rattle.aa_vec.proofs.Calling.{HasChained}
+use Rattle.aa_vec.proofs.{CallableAtPairMut, CalledAtPairMut, HasChained, ◌-◌}
 use Rattle.aa_vec.proofs.vec.dedup.distinct_run.Given as goal
 
 abbrev pub invariant-each : goal.invariant-each

@@ -1,5 +1,4 @@
-use Rattle.std.proofs.Common.{rules, refl}
-use Rattle.aa_vec.proofs.Common.{CalledAtMut}
+use Rattle.aa_vec.proofs.Common.{CalledAtMut, refl, rules}
 use Rattle.aa_vec.proofs.vec.dedup.same_keys.Goals as goal
 
 pub key-second-requires : goal.key-second-requires

@@ -1,5 +1,4 @@
-use Rattle.aa_vec.proofs.Common.{arith, CalledAtMut, CallableAtMut, KeepsWhen}
-use Rattle.aa_vec.proofs.Calling.{HasCalled-more, CallsUntil-here}
+use Rattle.aa_vec.proofs.{CallableAtMut, CalledAtMut, CallsUntil-here, HasCalled-more, KeepsWhen, arith}
 use Rattle.aa_vec.proofs.vec.retain.count_kept.Goals as goal
 
 pub returns-then-not-call_keeps-3 : goal.returns-then-not-call_keeps-3

@@ -1,5 +1,4 @@
-use Rattle.aa_vec.proofs.Common.{◌-◌, CalledAtMut, CallableAtMut, KeepsWhen}
-use Rattle.aa_vec.proofs.Calling.{HasCalled}
+use Rattle.aa_vec.proofs.{CallableAtMut, CalledAtMut, HasCalled, KeepsWhen, ◌-◌}
 use Rattle.aa_vec.proofs.vec.retain.count_kept.Given as goal
 
 abbrev pub invariant-each : goal.invariant-each

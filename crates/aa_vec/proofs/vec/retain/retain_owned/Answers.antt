@@ -1,6 +1,5 @@
-use Rattle.aa_vec.proofs.Common.{arith}
+use Rattle.aa_vec.proofs.{arith, stage-on}
 use Rattle.aa_vec.proofs.Retaining.{first-turn, asked-turn, Retains-ended}
-use Rattle.aa_vec.proofs.Stages.{stage-on}
 use Rattle.aa_vec.proofs.vec.retain.retain_owned.Goals as goal
 
 pub step_over-requires : goal.step_over-requires

@@ -1,6 +1,5 @@
-use Rattle.aa_vec.proofs.Common.{[], ◌-◌, ◌<◌, len, CalledAtMut, CallableAtMut}
+use Rattle.aa_vec.proofs.{CallableAtMut, CalledAtMut, Stage, [], len, ◌-◌, ◌<◌}
 use Rattle.aa_vec.proofs.Retaining.{Told, May}
-use Rattle.aa_vec.proofs.Stages.{Stage}
 use Rattle.aa_vec.proofs.vec.retain.retain_owned.Given as goal
 
 abbrev pub invariant-runs : goal.invariant-runs

@@ -1,4 +1,4 @@
-use Rattle.aa_vec.proofs.Common.{CalledAtMut, CallableAtMut, run}
+use Rattle.aa_vec.proofs.Common.{CallableAtMut, CalledAtMut, run}
 use Rattle.aa_vec.specs.Extract.{extract_remaining}
 use Rattle.aa_vec.proofs.ExtractLemmas.{may_spare, picked_held}
 use Rattle.aa_vec.proofs.vec.extract_if.ExtractBy.next_by.Goals as goal

@@ -2,9 +2,7 @@
 use Rattle.aa_vec.proofs.Walks.{vals, agg, owned, refl, List, [], ◌∷◌, ◌++◌, Args, dcons, dnil, a_type, inst_fn, Val, sep, id⊢, ftrue, ‵, raw, ◌⊛◌, some, later, ◌$◌, ◌∵◌, !, qed, move, keep, use1, group, split, join, fjoin, fsplit, pick, await, suffices, done, whole, sub, enter, stop, fld, of_opd, addr, and_then, no_more, returns, alloc_all, pass_all, free_all, look_at, get, get_in, through, sets, lands_as, fact, tables, bounded, owns, nothing, heard, fields, calls_at, Ended, lasts, alive, triple_of, framed, Stays, walk_of, ends_at, ◌≡◌}
 use Rattle.aa_vec.proofs.SpliceFields.{SProp, regoal, prop, at, Is, shows, peeks, at_exit, WpFn, proved_at, only_said, goes, IsFinite, Vector, Decl, Row, words, word, Fits, opened, asks, Answer, answer_laws}
 use Rattle.aa_vec.proofs.DrainFields.{Gap, GapDecl, GapLws, gap_makes}
-use mir.Syntax.{w64}
-use mir.Val.{vint}
-use Rattle.aa_vec.proofs.Common.{run, row}
+use Rattle.aa_vec.proofs.Common.{row, run, vint, w64}
 use Rattle.aa_vec.specs.contracts.vec.splice.Splice.finish_by as f
 use Rattle.aa_vec.proofs.vec.splice.Splice.finish_by.Statement.{statement}
 use Rattle.aa_vec.proofs.vec.splice.Splice.finish_by.Code as code

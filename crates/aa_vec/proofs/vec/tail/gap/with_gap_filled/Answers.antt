@@ -1,5 +1,4 @@
-use Rattle.aa_vec.proofs.Common.{arith}
-use Rattle.aa_vec.proofs.Filling.{Placed-start, Placed-put}
+use Rattle.aa_vec.proofs.{Placed-put, Placed-start, arith}
 use Rattle.aa_vec.proofs.vec.tail.gap.with_gap_filled.Goals as goal
 
 pub loop-left-init : goal.loop-left-init

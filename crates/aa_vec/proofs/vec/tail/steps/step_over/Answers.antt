@@ -1,5 +1,4 @@
-use Rattle.aa_vec.proofs.Common.{◌-◌, refl, sym, subst, arith, HasTail}
-use Rattle.aa_vec.proofs.Tails.{closes_none, first_tail, others_first, takes_next, takes_none}
+use Rattle.aa_vec.proofs.{HasTail, arith, closes_none, first_tail, others_first, refl, subst, sym, takes_next, takes_none, ◌-◌}
 use Rattle.aa_vec.proofs.vec.tail.steps.step_over.Goals.{then-kept-eq2, else-kept-eq2}
 use Rattle.aa_vec.proofs.vec.tail.steps.step_over.Goals as goal
 
