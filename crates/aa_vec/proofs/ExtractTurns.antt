@@ -84,8 +84,8 @@ module _ {T A : Type 0} {old joined : Vector T A} {low : ℕ} (front end : ℕ) 
     others_in : (xs : List T) → length xs ≡ n → (k : ℕ) → k ≤ n → drop k (map Some xs ++ drop n (drop front old.spare)) ≡ map Some (drop k xs) ++ drop n (drop front old.spare)
     others_in xs e k h = let some : T → Option T = λ x. Some x in drop-append-le k (map some xs) (drop n (drop front old.spare)) (omega (arith, h, e, length-map xs some)) ∙ ap (λ ds. ds ++ drop n (drop front old.spare)) (drop-map some k xs)
 
-    -- and the items are set back
-    module _ (w : Vector T A) (places : List (Option T)) (differs : w ≡ with_spare down places) (new : Vector T A) (set : SetsTail w (len old) new) where
+    -- the kept elements are the last items
+    module _ (w : Vector T A) (places : List (Option T)) (differs : w ≡ with_spare down places) where
       abbrev stays : List T
       stays = tail_items old 0 low ++ take stay left
 
@@ -95,12 +95,24 @@ module _ {T A : Type 0} {old joined : Vector T A} {low : ℕ} (front end : ℕ) 
       back_long : length stays ≡ low + stay
       back_long = omega (arith, length-append (tail_items old 0 low) (take stay left), count old 0 low before, length-take-le stay left (omega (arith, turned.within, long)))
 
-      set_count : len w - len old ≡ low + stay
-      set_count = grind (arith, back_long, length-drop, items, drop_at)
+      -- and the items are set back
+      module _ (new : Vector T A) (set : SetsTail w (len old) new) where
+        set_count : len w - len old ≡ low + stay
+        set_count = grind (arith, back_long, length-drop, items, drop_at)
 
-      picked : (j next : ℕ) (item : Option T) → next ≡ front + (stay + j) → stay + j ≤ n → length (kept calls.calls) ≡ j → drop (stay + j) left ≡ drop (stay + j) (tail_items old front n) → drop (gap + j) w.spare ≡ drop (gap + j) down.spare
-          → MatchOption item ((kept calls.calls ≡ []) × (next ≡ end)) (λ x. (kept calls.calls ≡ x ∷ []) × EndsTrue calls.calls) → Picks Keeps f old low front end stay next item g new
-      picked j next item e fits many same beyond cases = grind (arith, asked_parts calls.calls, drop-drop (gap + j) (low + stay) new.spare, drop-drop j gap down.spare, others_in left long (stay + j) fits, parts old front n has_tail, drop-drop (stay + j) front old.spare, calls, asked_parts, Becomes-holds, items, take_at, set_count, drop-drop, drop_at, length-map, back_long, apart, others_in, long, count, parts)
+        picked : (j next : ℕ) (item : Option T) → next ≡ front + (stay + j) → stay + j ≤ n → length (kept calls.calls) ≡ j → drop (stay + j) left ≡ drop (stay + j) (tail_items old front n) → drop (gap + j) w.spare ≡ drop (gap + j) down.spare
+            → MatchOption item ((kept calls.calls ≡ []) × (next ≡ end)) (λ x. (kept calls.calls ≡ x ∷ []) × EndsTrue calls.calls) → Picks Keeps f old low front end stay next item g new
+        picked j next item e fits many same beyond cases = grind (arith, asked_parts calls.calls, drop-drop (gap + j) (low + stay) new.spare, drop-drop j gap down.spare, others_in left long (stay + j) fits, parts old front n has_tail, drop-drop (stay + j) front old.spare, calls, asked_parts, Becomes-holds, items, take_at, set_count, drop-drop, drop_at, length-map, back_long, apart, others_in, long, count, parts)
+
+    -- the next one is in the place after the gap
+    next_place : (m : ℕ) → m ≡ len old → len down + gap ≡ m + (front + stay)
+    next_place m e = omega (arith, e, ordered.0, ap length (items down down.spare refl), length-append old.items (stays down down.spare refl), back_long down down.spare refl)
+
+    pub next_gap : (m : ℕ) → m ≡ len old → m + (front + stay) - len down ≡ gap
+    next_gap m e = omega (arith, next_place m e)
+
+    pub next_asked : (m : ℕ) → m ≡ len old → stay < n → (len down ≤ m + (front + stay)) × HasTail down (m + (front + stay) - len down) 1
+    next_asked m e less = (omega (arith, next_place m e), rw (next_gap m e) (first_tail down gap (n - stay) next_stand 1 (omega (arith, less))))
 
     -- none remains to be tested
     pub Picks-none : n ≤ stay → {new : Vector T A} → SetsTail down (len old) new → Picks Keeps f old low front end stay end None g new

@@ -60,7 +60,9 @@ impl<T, A: Allocator> Vec<T, A> {
         self.close_gap(0, kept);
         let passed = self.pass_over(gap, count, f);
         let (next, item) = if passed < count {
-            (rest.start + passed + 1, Some(self.take_from_tail(gap)))
+            self.block.prove_capacity_bounds();
+            let at = rest.start + passed;
+            (at + 1, Some(self.take_at(len + at)))
         } else {
             (rest.end, None)
         };

@@ -77,6 +77,19 @@ impl<T, A: Allocator> Vec<T, A> {
         self.block.take(self.len + gap)
     }
 
+    // Takes the first element after a gap out of its place, `at`, and returns it.
+    #[inline]
+    #[tactic(auto, using(crate::proofs::Gaps::emptied))]
+    pub(crate) fn take_at(&mut self, at: usize) -> T
+        requires { (len self.old ≤ at) × HasTail self.old (at - len self.old) 1 }
+        ensures { let gap = at - len self.old in (tail_items self.old gap 1 ≡ result ∷ [])
+            × (self.new ≡ with_spare self.old (slice_set self.old.spare gap None)) }
+    {
+        let _within = self.block.capacity();
+        self.settled.add(1);
+        self.block.take(at)
+    }
+
     // Returns a slice of the `count` elements after the gap.
     #[tactic(auto, using(crate::proofs::Gaps::borrowed))]
     pub(crate) fn tail_slice(&self, gap: usize, count: usize) -> &[T]
