@@ -6,7 +6,7 @@ ghost use Rattle.aa_ring.specs.Ringed.{empty, with_written, with_room, HasRoom, 
 
 use allocator_api2::collections::{Refused, TryReserveError};
 use allocator_api2::counter::Counter;
-use allocator_api2::raw_vec::RawVec;
+use allocator_api2::raw_vec::{Growth, RawVec};
 pub use compare::{compare_items, partial_compare_items, same, same_as_slice};
 use std::alloc::{Allocator, Global};
 use std::marker::Model;
@@ -29,7 +29,8 @@ mod vectors;
 
 /// A double-ended queue over the allocator `A`.
 ///
-/// The items are in one circular block. It doubles when it is full and one more item is pushed.
+/// The items are in one circular block. It grows when it is full and one more item is pushed:
+/// unless another growth policy was chosen, it doubles.
 pub struct Ring<T, A: Allocator = Global> {
     block: RawVec<T, A>,
     // The first `count` items are at the places from `front` on.
@@ -65,6 +66,17 @@ impl<T, A: Allocator> Ring<T, A> {
         ensures { result ≡ empty (type_size T.row) 0 Doubling alloc }
     {
         Ring::from_block(RawVec::new_in(alloc))
+    }
+
+    /// Returns an empty ring with the growth policy `growth`.
+    ///
+    /// Does not allocate. By the policy `InPlace`, a full ring whose first item is in the first
+    /// place grows in place, if its allocator can.
+    #[tactic(auto, using(allocator_api2::proofs::Blocks::with_room))]
+    pub fn with_growth_in(growth: Growth, alloc: A) -> Self
+        ensures { result ≡ empty (type_size T.row) 0 growth alloc }
+    {
+        Ring::from_block(RawVec::with_growth_in(growth, alloc))
     }
 
     /// Returns an empty ring with capacity for exactly `capacity` items.
@@ -125,6 +137,13 @@ impl<T, A: Allocator> Ring<T, A> {
         ensures { result ≡ self.now.capacity }
     {
         self.block.capacity()
+    }
+
+    /// Returns the growth policy.
+    pub fn growth(&self) -> Growth
+        ensures { result ≡ self.now.growth }
+    {
+        self.block.growth()
     }
 
     /// Returns a reference to the item at `index`, or `None` if there is none.

@@ -1,5 +1,6 @@
 //! The ring.
 use aa_ring::ring::Ring;
+use allocator_api2::raw_vec::Growth;
 use std::alloc::Global;
 use std::cell::Cell;
 use test_allocators::Faulty;
@@ -153,4 +154,36 @@ fn items_of_a_ring_are_dropped_once(rt: HostRuntime) {
     ] {
         assert!(rt; is_so(rt.alloc(), row), "{} of {}", row.2, row.1);
     }
+}
+
+// A ring's length, capacity and last item.
+type Seen = (usize, usize, Option<u32>);
+
+fn seen_at_end(ring: &Ring<u32, &Faulty<Global>>) -> Seen {
+    (ring.len(), ring.capacity(), ring.back().copied())
+}
+
+// A full ring that grows in place: a push onto it fails, and then succeeds. What it is after each.
+fn grown_in_place(heap: &Faulty<Global>) -> Option<(Seen, Seen)> {
+    let mut ring = Ring::with_growth_in(Growth::InPlace, heap);
+    for item in 1..5u32 {
+        ring.push_back(item).ok()?;
+    }
+    heap.fail_requests(0, 1);
+    let failed = ring.push_back(5).is_err() && ring.growth() == Growth::InPlace;
+    let kept = seen_at_end(&ring);
+    ring.push_back(5).ok()?;
+    if failed {
+        Some((kept, seen_at_end(&ring)))
+    } else {
+        None
+    }
+}
+
+#[test]
+fn a_failed_growth_in_place_keeps_the_ring(rt: HostRuntime) {
+    let heap = Faulty::new(rt.alloc());
+    let wanted = ((4, 4, Some(4)), (5, 8, Some(5)));
+    assert!(rt; grown_in_place(&heap) == Some(wanted));
+    assert!(rt; heap.failures() == 1 && is_all_freed(&heap));
 }
