@@ -11,10 +11,7 @@ use Rattle.aa_ordered.specs.Entries.{OrderedView}
 use Rattle.aa_ordered.specs.Inside.{view_of}
 use Rattle.aa_ordered.specs.Leaves.{resizes_to as leaves_to, with_room, LeavesView}
 use Rattle.aa_ordered.proofs.Balance.{at-least, at-most}
-use Rattle.aa_ordered.proofs.Resizing.{leaves-kept, moved-to}
-
-leaves-same : (r : ℕ) → leaves_of (capacity_of r) ≡ r
-leaves-same r = grind (arith, nat_tests)
+use Rattle.aa_ordered.proofs.Resizing.{leaves-kept, leaves-same, moved-to}
 
 small : (l r n : ℕ) → 32 * l ≤ n + 31 → r ≤ l → capacity_of r < n + 64
 small l r n h k = grind (arith, nat_tests, h, k)

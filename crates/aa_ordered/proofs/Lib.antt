@@ -4,6 +4,7 @@ pub mod Stepping
 pub mod Found
 pub mod Balance
 pub mod Resizing
+pub mod Growing
 pub mod Fitting
 pub mod Flat
 pub mod Placing

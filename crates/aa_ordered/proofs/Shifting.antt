@@ -1,5 +1,5 @@
 -- Lists before and after a full one, in the terms of the functions that move items.
-use Rattle.std.proofs.Common.{◌≡◌, ◌+◌, ◌-◌, ◌*◌, ◌/◌, ◌≤◌, ◌<◌, ◌++◌, ℕ, suc, zero, List, [], ◌∷◌, inl, inr, arith, length, take, drop, get_or, max, sym, ap, subst, ◌∙◌}
+use Rattle.std.proofs.Common.{◌≡◌, ◌⊎◌, ◌+◌, ◌-◌, ◌*◌, ◌/◌, ◌≤◌, ◌<◌, ◌++◌, ℕ, suc, zero, List, [], ◌∷◌, inl, inr, arith, length, take, drop, get_or, max, sym, ap, subst, ◌∙◌}
 use Rattle.std.specs.Prelude.{slice_set}
 use Rattle.std.proofs.lemmas.Bool.Decides.{nat_tests}
 use Rattle.std.proofs.lemmas.Bool.{cases_lt}
@@ -114,7 +114,13 @@ module _ {T : Type 0} (v : LeavesView T) (within : length v.lists ≤ v.room) (n
   more : v.room < length v.lists + 1 → room_for v 1 ≡ max (2 * v.room) (length v.lists + 1)
   more l = grind (arith, nat_tests, l)
 
-  pub needs-number : v.room < length v.lists + 1 → n ≤ 64 * length v.lists → room_for v 1 * 64 ≡ max (2 * v.room) (leaves_for (n + 1)) * 64
-  needs-number l most =
+  needs-leaves : v.room < length v.lists + 1 → n ≤ 64 * length v.lists → room_for v 1 ≡ max (2 * v.room) (leaves_for (n + 1))
+  needs-leaves l most =
       let same : max (2 * v.room) (length v.lists + 1) ≡ max (2 * v.room) (max 1 (n / 32)) = omega (arith, within, enough, l, most) in
-      ap (λ k. k * 64) (more l ∙ same ∙ ap (max (2 * v.room)) (sym leaves-more))
+      more l ∙ same ∙ ap (max (2 * v.room)) (sym leaves-more)
+
+  pub needs-number : v.room < length v.lists + 1 → n ≤ 64 * length v.lists → room_for v 1 * 64 ≡ max (2 * v.room) (leaves_for (n + 1)) * 64
+  needs-number l most = ap (λ k. k * 64) (needs-leaves l most)
+
+  pub needs-either : n ≤ 64 * length v.lists → (r : ℕ) → r ≡ room_for v 1 → (r ≡ v.room) ⊎ (r ≡ max (2 * v.room) (leaves_for (n + 1)))
+  needs-either most r is = elim (cases_lt v.room (length v.lists + 1)) [ inl l ↦ inr (is ∙ needs-leaves l most) | inr g ↦ inl (is ∙ needs-same g) ]

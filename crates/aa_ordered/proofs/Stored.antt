@@ -43,7 +43,7 @@ module _ {K V : Type 0} (cmp : K → K → Ordering) (total : IsTotalOrder cmp) 
       record {
         entries = i.entries ∙ inserted-twice m.entries k x v;
         capacity = λ f. i.capacity (omega (arith, f, long));
-        grown = i.grown;
+        grown = rw long at i.grown;
         resizes = i.resizes;
       }
 

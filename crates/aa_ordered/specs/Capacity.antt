@@ -1,5 +1,5 @@
 -- The capacity of an ordered map, and the allocations that it requests.
-use Rattle.std.specs.Prelude.{◌≡◌, ℕ, ◌+◌, ◌-◌, ◌*◌, ◌/◌, ◌%◌, ◌<◌, ◌≤◌, ◌==◌, ◌||◌, if◌then◌else◌, length, max, nat_le}
+use Rattle.std.specs.Prelude.{◌≡◌, ◌⊎◌, ℕ, ◌+◌, ◌-◌, ◌*◌, ◌/◌, ◌%◌, ◌^◌, ◌<◌, ◌≤◌, ◌==◌, ◌||◌, if◌then◌else◌, length, max, nat_le}
 use Rattle.allocator_api2.specs.declared.collections.TryReserveError.{TryReserveError}
 use Rattle.allocator_api2.specs.declared.collections.TryReserveErrorKind.TheVariants.{CapacityOverflow, AllocError}
 use Rattle.aa_ordered.specs.Entries.{OrderedView}
@@ -15,6 +15,10 @@ fresh_resizes n = if n == 0 then 0 else 1
 -- the number of leaves of a map with this capacity
 abbrev pub leaves_of : (capacity : ℕ) → ℕ
 leaves_of capacity = capacity / 32 - 1
+
+-- twice the number of leaves of a map with this capacity, or 1 if it has none
+abbrev pub twice_leaves_of : (capacity : ℕ) → ℕ
+twice_leaves_of capacity = max 1 (2 * leaves_of capacity)
 
 -- the least number of leaves with capacity for `n` entries
 abbrev pub leaves_for : (n : ℕ) → ℕ
@@ -52,3 +56,13 @@ module _ {K V : Type 0} where
   -- or `c` is 0 and all blocks were freed
   abbrev pub resizes_to : OrderedView K V → (c : ℕ) → ℕ
   resizes_to m c = if (c == 0) || (c == m.capacity) then m.resizes else m.resizes + 1
+
+  -- the map `u` has the capacity of `m`, or that of the leaves which `m` requests for one more entry
+  abbrev pub MayGrowForOne : (m u : OrderedView K V) → Type 0
+  MayGrowForOne m u =
+      (u.capacity ≡ m.capacity) ⊎ (u.capacity ≡ capacity_of (requested_leaves m 1))
+
+  -- from the map `m` to `u` each resize at least doubled the leaves, where none count as half of one
+  abbrev pub FewResizes : (m u : OrderedView K V) → Type 0
+  FewResizes m u =
+      2 ^ (u.resizes - m.resizes) * twice_leaves_of m.capacity ≤ twice_leaves_of u.capacity

@@ -1,10 +1,10 @@
 //! A map made of the items of an iterator, or extended by them.
-ghost use Rattle.std.specs.Prelude.{◌≡◌, List, [], Err, IfErr, IfOk, IsOk};
+ghost use Rattle.std.specs.Prelude.{◌≡◌, List, Err, IfErr, IfOk, IsOk};
 ghost use Rattle.std.specs.Iterator.{Drains, ExtendsWithItems, IsFiniteIterable, size};
 ghost use Rattle.allocator_api2.specs.Errors.{IsErrorFor};
 ghost use Rattle.aa_ordered.specs.Capacity.{requested};
 ghost use Rattle.aa_ordered.specs.Entries.{empty, OrderedView};
-ghost use Rattle.aa_ordered.specs.Iterating.{insert_all, HasCapacity, InsertsAll};
+ghost use Rattle.aa_ordered.specs.Iterating.{HasCapacity, InsertsAll};
 
 use crate::map::OrderedMap;
 use allocator_api2::collections::TryReserveError;
@@ -61,7 +61,7 @@ impl<K: Ord + Drop, V: Drop, A: Allocator + Copy> OrderedMap<K, V, A> {
             U.IntoIter.remaining iter }
         ensures collected { IfOk result (λ map. (it : U.IntoIter) × (xs : List (K × V))
             × U.into_iter_gives iter it × Drains U.IntoIter.next_gives it xs
-            × (map.entries ≡ insert_all K.cmp [] xs)) }
+            × InsertsAll K.cmp empty xs map) }
         ensures fits { ((it : U.IntoIter) → U.into_iter_gives iter it
             → size (U.IntoIter.remaining it) ≡ 0) → IsOk result }
         ensures failed { IfErr result (λ e. (map : OrderedView K V)
@@ -101,7 +101,7 @@ impl<K: Ord + Drop, V: Drop, A: Allocator + Clone> Extend<(K, V)> for OrderedMap
 impl<K: Ord + Drop, V: Drop, A: Allocator + Copy> FromIterator<(K, V)> for OrderedMap<K, V, A> {
     type Alloc = A;
 
-    ghost from_iter_gives = { λ xs map. map.entries ≡ insert_all K.cmp [] xs };
+    ghost from_iter_gives = { InsertsAll K.cmp empty };
 
     /// Returns a map of the items as `from_iter_in` does, whose error also has the number.
     fn from_iter<U: IntoIterator<Item = (K, V)>>(alloc: A, iter: U) -> Result<Self, AllocError>
@@ -109,7 +109,7 @@ impl<K: Ord + Drop, V: Drop, A: Allocator + Copy> FromIterator<(K, V)> for Order
             U.IntoIter.remaining iter }
         ensures collected { IfOk result (λ map. (it : U.IntoIter) × (xs : List (K × V))
             × U.into_iter_gives iter it × Drains U.IntoIter.next_gives it xs
-            × (map.entries ≡ insert_all K.cmp [] xs)) }
+            × InsertsAll K.cmp empty xs map) }
         ensures fits { ((it : U.IntoIter) → U.into_iter_gives iter it
             → size (U.IntoIter.remaining it) ≡ 0) → IsOk result }
     {

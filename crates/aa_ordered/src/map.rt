@@ -1,10 +1,10 @@
 //! The ordered map: a map from keys to values, in the order of the keys.
-ghost use Rattle.std.specs.Prelude.{◌≡◌, ◌+◌, ◌-◌, ◌*◌, ◌<◌, ◌≤◌, ◌↔◌, [], drop, is_some, length, max, take, true, IfErr, IfOk, IsOk, IsTrue, OnErr, OnOk, option_copied, option_map, slice_get};
+ghost use Rattle.std.specs.Prelude.{◌≡◌, ◌+◌, ◌-◌, ◌*◌, ◌<◌, ◌↔◌, [], drop, is_some, length, max, take, true, IfErr, IfOk, IsOk, IsTrue, OnErr, OnOk, option_copied, option_map, slice_get};
 ghost use Rattle.std.specs.Borrow.{sem};
 ghost use Rattle.std.specs.Option.{option_copied_mut};
 ghost use Rattle.std.specs.BTreeMap.{insert_entry};
 ghost use Rattle.allocator_api2.specs.Errors.{IsErrorFor};
-ghost use Rattle.aa_ordered.specs.Capacity.{requested, resizes_to};
+ghost use Rattle.aa_ordered.specs.Capacity.{requested, resizes_to, MayGrowForOne};
 ghost use Rattle.aa_ordered.specs.Entries.{empty, entry_of, value, without, IsOrdered};
 
 use crate::leaves::Leaves;
@@ -209,12 +209,12 @@ impl<K: Ord + Drop, V, A: Allocator + Clone> OrderedMap<K, V, A> {
         ensures inserted { OnOk result
             (self.new.entries ≡ insert_entry K.cmp self.old.entries key item) }
 
-        // The capacity changes only by an allocation, and does not become less.
+        // The capacity changes only by an allocation, and to that of the requested leaves.
         ensures kept { is_some (value K.cmp self.old.entries key) ≡ true
             → self.new.capacity ≡ self.old.capacity }
         ensures capacity { length self.old.entries < self.old.capacity
             → self.new.capacity ≡ self.old.capacity }
-        ensures grown { self.old.capacity ≤ self.new.capacity }
+        ensures grown { MayGrowForOne self.old self.new }
         ensures resizes { self.new.resizes ≡ resizes_to self.old self.new.capacity }
 
         // An error returns key and value, says why it failed, and leaves the map unchanged.

@@ -1,5 +1,5 @@
 //! Inserting and removing items at spots of lists, which remain balanced.
-ghost use Rattle.std.specs.Prelude.{◌≡◌, ◌+◌, ◌*◌, ◌<◌, ◌≤◌, [], ◌∷◌, length, insert, remove, drop, take, max, slice_get, slice_set, Some, IfErr, IfNone, IfOk, IfSome, IsOk, OnErr, OnOk};
+ghost use Rattle.std.specs.Prelude.{◌≡◌, ◌⊎◌, ◌+◌, ◌*◌, ◌<◌, ◌≤◌, [], ◌∷◌, length, insert, remove, drop, take, max, slice_get, slice_set, Some, IfErr, IfNone, IfOk, IfSome, IsOk, OnErr, OnOk};
 ghost use Rattle.allocator_api2.specs.Errors.{IsErrorFor};
 ghost use Rattle.aa_ordered.specs.Balance.{first, joined, last, lengths, position, HasRoom, IsAt, IsBalanced, IsSpot};
 ghost use Rattle.aa_ordered.specs.Capacity.{capacity_of, leaves_for};
@@ -188,7 +188,8 @@ fn make_room<T, A: Allocator + Clone>(
         (position leaves.old.lists spot.list spot.at) leaves.new.lists s.list s.at) }
     ensures room { length (joined leaves.old.lists) < capacity_of leaves.old.room
         → leaves.new.room ≡ leaves.old.room }
-    ensures grown { leaves.old.room ≤ leaves.new.room }
+    ensures grown { (leaves.new.room ≡ leaves.old.room) ⊎ (leaves.new.room
+        ≡ max (2 * leaves.old.room) (leaves_for (length (joined leaves.old.lists) + 1))) }
     ensures resizes { leaves.new.resizes ≡ resizes_to leaves.old leaves.new.room }
     ensures error { IfErr result (λ e. IsErrorFor e
         (max (2 * leaves.old.room) (leaves_for (length (joined leaves.old.lists) + 1)) * 64)) }
@@ -217,7 +218,7 @@ fn insert_first<T, A: Allocator + Clone>(
     ensures fits { 0 < leaves.old.room → IsOk result }
     ensures inserted { OnOk result (leaves.new.lists ≡ (item ∷ []) ∷ []) }
     ensures room { 0 < leaves.old.room → leaves.new.room ≡ leaves.old.room }
-    ensures grown { leaves.old.room ≤ leaves.new.room }
+    ensures grown { (leaves.new.room ≡ leaves.old.room) ⊎ (leaves.new.room ≡ 1) }
     ensures resizes { leaves.new.resizes ≡ resizes_to leaves.old leaves.new.room }
     ensures returned { IfErr result (λ r. r.source ≡ item) }
     ensures error { IfErr result (λ r. IsErrorFor r.error 64) }
@@ -254,7 +255,8 @@ pub(crate) fn insert_at<T, A: Allocator + Clone>(
     ensures balanced { OnOk result (IsBalanced (lengths leaves.new.lists)) }
     ensures room { length (joined leaves.old.lists) < capacity_of leaves.old.room
         → leaves.new.room ≡ leaves.old.room }
-    ensures grown { leaves.old.room ≤ leaves.new.room }
+    ensures grown { (leaves.new.room ≡ leaves.old.room) ⊎ (leaves.new.room
+        ≡ max (2 * leaves.old.room) (leaves_for (length (joined leaves.old.lists) + 1))) }
     ensures resizes { leaves.new.resizes ≡ resizes_to leaves.old leaves.new.room }
     ensures returned { IfErr result (λ r. r.source ≡ item) }
     ensures error { IfErr result (λ r. IsErrorFor r.error

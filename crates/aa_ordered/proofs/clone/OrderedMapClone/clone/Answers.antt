@@ -4,8 +4,8 @@ use Rattle.std.specs.BTreeMap.{insert_entry}
 use Rattle.std.specs.List.{AllZip}
 use Rattle.aa_ordered.specs.Capacity.{fresh_resizes, reserved_resizes}
 use Rattle.aa_ordered.specs.Entries.{OrderedView}
-use Rattle.aa_ordered.proofs.Extending.{fits-after, insert-ordered, insert_all-push, stays-as}
-use Rattle.aa_ordered.proofs.Resizing.{fresh-reserved}
+use Rattle.aa_ordered.proofs.Extending.{fits-after, insert-ordered, insert_all-push}
+use Rattle.aa_ordered.proofs.Resizing.{fresh-reserved, stays-as}
 use Rattle.aa_ordered.proofs.clone.OrderedMapClone.clone.Goals as goal
 
 pub each-init : goal.each-init

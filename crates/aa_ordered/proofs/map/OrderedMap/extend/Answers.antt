@@ -1,12 +1,13 @@
 use Rattle.std.proofs.Common.{arith, refl, ◌∙◌}
 use Rattle.std.specs.Iterator.{size}
 use Rattle.std.specs.Prelude.{length, ◌<◌}
-use Rattle.aa_ordered.proofs.Extending.{fits-after, insert-more, stays-as}
+use Rattle.aa_ordered.proofs.Extending.{fits-after, insert-more, insert-none}
+use Rattle.aa_ordered.proofs.Resizing.{stays-as}
 use Rattle.aa_ordered.proofs.map.OrderedMap.extend.Goals as goal
 
 pub each-init : goal.each-init
 each-init g c = record {
-  inserted = record { entries = refl; capacity = omega arith; resizes = λ _. refl };
+  inserted = insert-none g.K.Ord.cmp c.args.self.now;
   room = λ all. all c.into_iter-entry-iterator.result c.into_iter-entry-iterator.ensures.into_iter_gives;
   steady = λ _. (refl, refl);
 }
@@ -16,7 +17,7 @@ each-preserved g c =
     let x = c.in-Some.entry in let inv = c.each.invariant in let left = g.U.IntoIter.Iterator.remaining in let e = c.in-Ok.ensures in
     let fewer = (c.in-Some.ensures.goes.on c.each.iterator.1).2 in let cmp = g.K.Ord.cmp in
     record {
-      inserted = insert-more cmp c.args.self.now c.each.self c.insert.new.self c.each.yielded x inv.inserted e.inserted e.grown e.resizes;
+      inserted = insert-more cmp c.args.self.now c.each.self c.insert.new.self c.each.yielded x inv.inserted e.inserted e.kept e.capacity e.grown e.resizes;
       room = λ all.
           let had = inv.room all in
           let less : length c.each.self.entries < c.each.self.capacity = omega (arith, fewer, had) in

@@ -8,3 +8,8 @@ returns-in-Err-clause-failed g c =
     let e = c.in-Err.ensures.extended in let map = c.extend.new.self in
     let inserted = subst (λ (m : OrderedView g.row.K.Denot g.row.V.Denot). InsertsAll g.K.Ord.cmp m e.1 map) c.new_in-map.ensures e.3 in
     (map, (e.0, e.1, e.2, inserted, e.4), c.in-Err.ensures.error)
+
+pub returns-in-Ok-clause-collected : goal.returns-in-Ok-clause-collected
+returns-in-Ok-clause-collected g c =
+    let e = c.in-Ok.ensures.extended in let map = c.extend.new.self in
+    (e.0, e.1, e.2, e.4, subst (λ (m : OrderedView g.row.K.Denot g.row.V.Denot). InsertsAll g.K.Ord.cmp m e.1 map) c.new_in-map.ensures e.3)

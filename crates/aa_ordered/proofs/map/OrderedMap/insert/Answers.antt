@@ -2,6 +2,7 @@ use Rattle.std.proofs.Common.{◌+◌, ◌<◌, ◌^◌, Some, ap, rules, sym, �
 use Rattle.std.specs.BTreeMap.{insert_entry}
 use Rattle.aa_ordered.specs.Entries.{value, OrderedView}
 use Rattle.aa_ordered.proofs.Reading.{got-value, written-inserted, written-map}
+use Rattle.aa_ordered.proofs.Resizing.{grows-as}
 use Rattle.aa_ordered.proofs.Sound.{absent-inserted, absent-never, absent-value, inserted-map, inserted-small}
 use Rattle.aa_ordered.proofs.map.OrderedMap.insert.Goals as goal
 
@@ -43,3 +44,6 @@ returns-in_ok-insert_at-in-Err-clause-inserted g c =
 
 pub returns-in_ok-insert_at-in-Err-clause-kept : goal.returns-in_ok-insert_at-in-Err-clause-kept
 returns-in_ok-insert_at-in-Err-clause-kept g c t = absent-never g.K.Ord.cmp c.args.key c.self.inside.leaves c.args.self.now c.self.view_is _ c.in-Err.ensures.absent t
+
+pub returns-in_ok-insert_at-in-Err-clause-grown : goal.returns-in_ok-insert_at-in-Err-clause-grown
+returns-in_ok-insert_at-in-Err-clause-grown g c = grows-as c.self.inside.leaves c.args.self.now c.self.view_is c.insert_at.new.leaves.room c.insert_at.ensures.grown

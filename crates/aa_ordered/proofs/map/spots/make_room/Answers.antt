@@ -5,7 +5,7 @@ use Rattle.aa_ordered.specs.Capacity.{leaves_for}
 use Rattle.aa_ordered.specs.Leaves.{LeavesView}
 use Rattle.aa_ordered.proofs.Balance.{at-most}
 use Rattle.aa_ordered.proofs.Moving.{many}
-use Rattle.aa_ordered.proofs.Shifting.{needs-number, needs-room, needs-same}
+use Rattle.aa_ordered.proofs.Shifting.{needs-either, needs-number, needs-room, needs-same}
 use Rattle.aa_ordered.proofs.map.spots.make_room.Goals as goal
 
 pub returns-in_err-try_reserve-clause-fits : goal.returns-in_err-try_reserve-clause-fits
@@ -32,3 +32,10 @@ returns-clause-room g c less =
     (omega (arith, c.len_before.ensures.len, c.if-len_before-lt-HALF.false)) (omega (arith, c.len_from.ensures.len, c.if-len_from-lt-HALF.false)) in
     c.split.ensures.room ∙ ap (λ (u : LeavesView g.row.T.Denot). u.room) c.in_ok-try_reserve.ensures.reserved
     ∙ needs-same v c.prove_bounds.ensures.within (length (joined v.lists)) enough (needs-room v c.prove_bounds.ensures.within (length (joined v.lists)) enough less)
+
+pub returns-clause-grown : goal.returns-clause-grown
+returns-clause-grown g c =
+    let v = c.args.leaves.now in
+    let enough = many v.lists c.args.spot.list c.requires.list c.requires.balanced (omega (arith, ap length c.list.ensures.list, c.list.ensures.within, c.if-list-lt-LEAF.false))
+    (omega (arith, c.len_before.ensures.len, c.if-len_before-lt-HALF.false)) (omega (arith, c.len_from.ensures.len, c.if-len_from-lt-HALF.false)) in
+    needs-either v c.prove_bounds.ensures.within (length (joined v.lists)) enough (at-most v.lists c.prove_bounds.ensures.lists) _ (c.split.ensures.room ∙ ap (λ (u : LeavesView g.row.T.Denot). u.room) c.in_ok-try_reserve.ensures.reserved)
