@@ -79,12 +79,15 @@ module _ (X Y Z : RattleType) (g : alloc.Ghosts Z.Denot) where
   abbrev pub ms : List Member
   ms = of_row Bk ∷ of_row Ix ∷ rest_ms
 
-  -- where the block and the heads are in an arena
+  -- where the block, the heads and the number of lists are in an arena
   abbrev pub block_at : ℕ
   block_at = up (align (lone Bk.mir)) 0
 
   abbrev pub index_at : ℕ
   index_at = up (align (lone Ix.mir)) (block_at + size (lone Bk.mir))
+
+  abbrev pub used_at : ℕ
+  used_at = up (align (lone usize.mir)) (index_at + size (lone Ix.mir))
 
   abbrev pub Viewed : D → In.Denot → Type 0
   Viewed d a = (view (X.Denot × Y.Denot) Z.Denot g a ≡ d) × invariant (X.Denot × Y.Denot) Z.Denot g a

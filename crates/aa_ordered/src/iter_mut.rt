@@ -1,7 +1,7 @@
 //! Iterators that lend the values of a map mutably, in the order of the keys.
 ghost use Rattle.std.specs.Prelude.{◌≡◌, length, Some, IfSome};
 ghost use Rattle.std.specs.Borrow.{sem};
-ghost use Rattle.std.specs.Iterator.{YieldsFirstBy, UpTo, item_count};
+ghost use Rattle.std.specs.Iterator.{YieldsFirstBy, YieldsLastBy, UpTo, item_count};
 ghost use Rattle.std.specs.Iterator.SizeHint.{IsWithinCount};
 ghost use Rattle.std.specs.Map.{values_of};
 ghost use Rattle.aa_ordered.specs.Entries.{IsOrdered};
@@ -15,36 +15,40 @@ use std::cmp::Ord;
 use std::iter::FusedIterator;
 use std::marker::Model;
 
-/// An iterator over the keys of a map and mutable references to their values, in the order of the
-/// keys.
+/// A double-ended iterator over the keys of a map and mutable references to their values, in the
+/// order of the keys.
 ///
 /// Returned by `OrderedMap::iter_mut`. A contract sees it as the list of the remaining entries, and
 /// the name of its borrow of the map.
 #[derive(Drop)]
 pub struct IterMut<'a, K, V> {
-    // the heads of the lists after the current one, and the entries in their places
+    // the heads of the lists that no entry was taken from, and the entries in all places
     heads: &'a [Head],
     entries: EntriesMut<'a, K, V>,
-    // where the remaining entries of the current list begin and end, and the number of all
+    // where the remaining entries of the list before those begin and end
     at: usize,
     end: usize,
+    // where the remaining entries of the list after those begin and end
+    from: usize,
+    until: usize,
+    // the number of all remaining entries
     left: usize,
 }
 
 impl<'a, K, V> Model for IterMut<'a, K, V> {
-    ghost use Rattle.std.specs.Prelude.{take};
     ghost use Rattle.aa_raw.specs.EntriesMut.{borrow_name, places_left};
     ghost use Rattle.aa_ordered.specs.IterMut.{entries_in, IsLending, Lent};
 
     ghost Value = { Lent K V };
 
     ghost view = { λ it. record {
-      entries = take it.left (entries_in (places_left it.entries) it.heads.now it.at it.end);
+      entries = entries_in
+          (places_left it.entries) it.heads.now it.at it.end it.from it.until;
       borrow = borrow_name it.entries;
     } };
 
     ghost invariant = { λ it. IsLending
-        (places_left it.entries) it.heads.now it.at it.end it.left };
+        (places_left it.entries) it.heads.now it.at it.end it.from it.until it.left };
 }
 
 impl<'a, K, V> Iterator for IterMut<'a, K, V> {
@@ -67,7 +71,11 @@ impl<'a, K, V> Iterator for IterMut<'a, K, V> {
                     self.end = self.at + head.len;
                     self.heads = others;
                 }
-                None => unreachable!(),
+                None => {
+                    self.at = self.from;
+                    self.end = self.until;
+                    self.from = self.until;
+                }
             }
         }
         let at = self.at;
@@ -86,6 +94,37 @@ impl<'a, K, V> Iterator for IterMut<'a, K, V> {
     }
 }
 
+impl<'a, K, V> DoubleEndedIterator for IterMut<'a, K, V> {
+    ghost next_back_gives = { YieldsLastBy (λ item. (item.0.now, item.1.now)) (λ it. it.entries) };
+
+    /// Returns the last of the remaining keys with a mutable reference to its value, or `None` if
+    /// none remains.
+    #[inline]
+    fn next_back(&mut self) -> Option<(&'a K, &'a mut V)> {
+        if self.left == 0 {
+            return None;
+        }
+        'list: while self.from == self.until {
+            match self.heads.split_last() {
+                Some((head, others)) => {
+                    self.from = head.leaf * LEAF;
+                    self.until = self.from + head.len;
+                    self.heads = others;
+                }
+                None => {
+                    self.from = self.at;
+                    self.until = self.end;
+                    self.at = self.end;
+                }
+            }
+        }
+        let last = self.until - 1;
+        self.until = last;
+        self.left -= 1;
+        Some(self.entries.take(last))
+    }
+}
+
 impl<'a, K, V> ExactSizeIterator for IterMut<'a, K, V> {
     fn len(&self) -> usize {
         self.left
@@ -94,7 +133,8 @@ impl<'a, K, V> ExactSizeIterator for IterMut<'a, K, V> {
 
 impl<'a, K, V> FusedIterator for IterMut<'a, K, V> {}
 
-/// An iterator over mutable references to the values of a map, in the order of the keys.
+/// A double-ended iterator over mutable references to the values of a map, in the order of the
+/// keys.
 ///
 /// Returned by `OrderedMap::values_mut`. A contract sees it as an `IterMut`.
 #[derive(Drop)]
@@ -136,6 +176,19 @@ impl<'a, K, V> Iterator for ValuesMut<'a, K, V> {
     }
 }
 
+impl<'a, K, V> DoubleEndedIterator for ValuesMut<'a, K, V> {
+    ghost next_back_gives = { YieldsLastBy (λ value. value.now) values };
+
+    /// Returns a mutable reference to the last of the remaining values, or `None` if none remains.
+    #[inline]
+    fn next_back(&mut self) -> Option<&'a mut V> {
+        match self.rest.next_back() {
+            Some((_, value)) => Some(value),
+            None => None,
+        }
+    }
+}
+
 impl<'a, K, V> ExactSizeIterator for ValuesMut<'a, K, V> {
     fn len(&self) -> usize {
         self.rest.len()
@@ -147,8 +200,8 @@ impl<'a, K, V> FusedIterator for ValuesMut<'a, K, V> {}
 impl<K: Ord, V, A: Allocator> OrderedMap<K, V, A> {
     ghost use Rattle.aa_ordered.specs.IterLends.{lends_values};
 
-    /// Returns an iterator over the keys and mutable references to their values, in the order of
-    /// the keys.
+    /// Returns a double-ended iterator over the keys and mutable references to their values, in
+    /// the order of the keys.
     ///
     /// When the borrow ends, each key has the last value written to it. Does not allocate.
     #[tactic(auto, using(crate::proofs::Revalued::kept_keys))]
@@ -161,17 +214,20 @@ impl<K: Ord, V, A: Allocator> OrderedMap<K, V, A> {
     {
         self.leaves.prove_bounds();
         let left = self.len;
-        let (heads, entries) = self.lend();
+        let (heads, used, entries) = self.lend();
         IterMut {
-            heads: heads.as_slice(),
+            heads: &heads.as_slice()[..used],
             entries,
             at: 0,
             end: 0,
+            from: 0,
+            until: 0,
             left,
         }
     }
 
-    /// Returns an iterator over mutable references to the values, in the order of the keys.
+    /// Returns a double-ended iterator over mutable references to the values, in the order of the
+    /// keys.
     ///
     /// When the borrow ends, each key has the last value written to it. Does not allocate.
     pub fn values_mut(&mut self) -> ValuesMut<'_, K, V>

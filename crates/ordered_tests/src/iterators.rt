@@ -29,6 +29,14 @@ fn raise<A: Allocator>(map: &mut OrderedMap<u64, u64, A>, by: u64)
     }
 }
 
+// The key of an entry that is lent, if there is one.
+fn key_of(entry: Option<(&u64, &mut u64)>) -> Option<u64> {
+    match entry {
+        Some((key, _)) => Some(*key),
+        None => None,
+    }
+}
+
 // A map of the multiples of three below `end`, each with its half.
 fn threes<'a>(heap: &'a Faulty<Global>, end: u64) -> Small<'a> {
     let mut map = OrderedMap::new_in(heap);
@@ -97,6 +105,60 @@ fn values_are_lent_all_at_once(rt: HostRuntime) {
     drop(lent);
     assert!(rt; map.get(&0) == Some(&7) && map.get(&3) == Some(&1));
     assert!(rt; map.get(&897) == Some(&1795) && heap.requests() == before);
+}
+
+#[test]
+fn values_are_lent_from_both_ends(rt: HostRuntime) {
+    let heap = Faulty::new(rt.alloc());
+    let mut map = threes(&heap, 900);
+    let mut lent = map.iter_mut();
+    let mut pairs = 0u64;
+    while let (Some(first), Some(last)) = (lent.next(), lent.next_back()) {
+        assert!(rt; *first.0 == pairs.wrapping_mul(3) && first.0.wrapping_add(*last.0) == 897);
+        std::mem::swap(first.1, last.1);
+        pairs = pairs.wrapping_add(1);
+    }
+    assert!(rt; pairs == 150 && lent.next().is_none() && lent.next_back().is_none());
+    drop(lent);
+    for (key, value) in &map {
+        assert!(rt; *value == 897u64.wrapping_sub(*key) / 2);
+    }
+}
+
+#[test]
+fn values_of_one_list_are_lent_from_both_ends(rt: HostRuntime) {
+    let heap = Faulty::new(rt.alloc());
+    let mut map = threes(&heap, 15);
+    let mut lent = map.iter_mut();
+    assert!(rt; key_of(lent.next_back()) == Some(12) && key_of(lent.next()) == Some(0));
+    assert!(rt; key_of(lent.next()) == Some(3) && key_of(lent.next_back()) == Some(9));
+    assert!(rt; lent.len() == 1 && key_of(lent.next_back()) == Some(6) && lent.len() == 0);
+    assert!(rt; lent.next().is_none() && lent.next_back().is_none());
+    drop(lent);
+    let mut others = map.iter_mut();
+    assert!(rt; key_of(others.next()) == Some(0) && key_of(others.next_back()) == Some(12));
+}
+
+#[test]
+fn values_are_lent_in_reverse(rt: HostRuntime) {
+    let heap = Faulty::new(rt.alloc());
+    let mut map = threes(&heap, 900);
+    let mut end = 900u64;
+    for (key, value) in map.iter_mut().rev() {
+        assert!(rt; key.wrapping_add(3) == end);
+        end = *key;
+        *value = end.wrapping_mul(2);
+    }
+    assert!(rt; end == 0 && map.get(&0) == Some(&0) && map.get(&897) == Some(&1794));
+    let mut end = 1800u64;
+    for value in map.values_mut().rev() {
+        assert!(rt; value.wrapping_add(6) == end);
+        end = *value;
+        *value = end.wrapping_add(1);
+    }
+    assert!(rt; end == 0 && map.get(&0) == Some(&1) && map.get(&897) == Some(&1795));
+    let mut empty = threes(&heap, 0);
+    assert!(rt; empty.values_mut().next_back().is_none() && empty.iter_mut().next().is_none());
 }
 
 #[test]

@@ -14,14 +14,16 @@ impl<K: Ord, V, A: Allocator> OrderedMap<K, V, A> {
     ghost use Rattle.aa_ordered.specs.IterLends.{lends_values};
     ghost use Rattle.aa_ordered.specs.IterMut.{IsLent};
 
-    // Borrows the heads of the leaves, and the entries in their places.
-    pub(crate) fn lend(&mut self) -> (&Vec<Head, A>, EntriesMut<'_, K, V>)
+    // Borrows the heads of the leaves, and the entries in their places. The number is that of the
+    // lists.
+    pub(crate) fn lend(&mut self) -> (&Vec<Head, A>, usize, EntriesMut<'_, K, V>)
         ensures* writes_back { sem 𝓛 (lends_values K.row V.row A.row K.Ord A.Allocator self.entry
-            (borrow_name result.1)) }
-        ensures lent { IsLent (places_left result.1) result.0.now.items self.old }
+            (borrow_name result.2)) }
+        ensures lent { IsLent (places_left result.2) result.0.now.items result.1 self.old }
         ensures ordered { IsOrdered K.cmp self.old.entries }
     {
+        let used = self.leaves.used;
         let entries = self.leaves.block.entries_mut();
-        (&self.leaves.heads, entries)
+        (&self.leaves.heads, used, entries)
     }
 }

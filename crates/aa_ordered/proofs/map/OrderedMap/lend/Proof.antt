@@ -1,17 +1,22 @@
--- The heads of a map and the entries in its places, lent at once. Assumes `Logic`.
-use Rattle.aa_raw.proofs.Common.{ !, Goes-spent_ref, Stays, Struct, Val, Vals, Valss, [], addr, agg, alloc_all, and_then, ap, await, block_ptr, calls_at, done, ends_at, enter, fact, feq_i, fjoin, fjoin3, fld, flft, fpack, frame, framed, follows, free_all, fsplit, fsplit3, ftrue, get, group, heard, hide, id⊢, inst_fn, join, keep, lands_as, later, look_at, lose as drop, move, mut_Tells, mut_ref_to, mut_vals, named, no, no_more, nothing, of_opd, owns, pass_all, pick, plain, proved, qed, raw, refl, returns, sets, some, split, stay_dropped, stop, suffices, tables, through, tuple_type, types_at, use0, use1, use2, vcons, vnil, vptr, vstruct, walk_of, within, ‵, ◌$◌, ◌+◌, ◌∵◌, ◌∷◌, ◌≡◌, ◌⊑◌, ◌⊛◌, fpick, in_a_block, never, of_list, ptr_val, pure_i, shape, feq_l, Ptr, ◌++◌, ◌∙◌, subst, sym}
+-- The heads of a map, their number in use, and the entries in its places, lent at once. Assumes
+-- `Logic`.
+use Rattle.aa_raw.proofs.Common.{ !, Goes-spent_ref, Stays, Struct, Val, Vals, Valss, [], addr, agg, alloc_all, and_then, ap, await, block_ptr, calls_at, done, ends_at, enter, fact, feq_i, fjoin, fjoin3, fld, flft, fpack, frame, framed, follows, free_all, fsplit, fsplit3, ftrue, get, group, heard, hide, id⊢, inst_fn, join, keep, lands_as, later, look_at, lose as drop, move, mut_Tells, mut_ref_to, mut_vals, named, no, no_more, nothing, of_opd, owns, pass_all, pick, plain, proved, qed, raw, refl, returns, sets, some, split, stay_dropped, stop, suffices, tables, through, tuple_type, types_at, use0, use1, use2, vcons, vnil, vptr, vstruct, walk_of, within, ‵, ◌$◌, ◌+◌, ◌∵◌, ◌∷◌, ◌≡◌, ◌⊑◌, ◌⊛◌, fpick, in_a_block, never, of_list, ptr_val, pure_i, shape, feq_l, Ptr, ◌++◌, ◌∙◌, subst, sym, fat, flt_i, load, look, usize, vint, ◌^◌}
 use base.Fml.{Incl-refl, Incl-trans}
+use base.Fraction.{full_share}
 use base.Logic.{emp}
 use base.Share
 use contract.Fact.{fact_i}
+use denote.Memory.{part_at}
 use denote.Param.{bounded}
+use denote.Plain.{uint_in, uint_out}
 use denote.Ref.{ShrRef}
 use denote.RattleType.{RattleType}
 use denote.Signature.{named_lft}
 use denote.Struct.Declared as Declared
 use denote.Triple.Clauses.{lasts}
 use denote.Triple.Spec.{triple_of}
-use mir.Syntax.{Args, a_type, dcons, dnil}
+use mir.Syntax.{Args, a_type, dcons, dnil, ty_int, w64}
+use types.Run.{well_typed}
 use Rattle.aa_raw.specs.Entries.{entries_owned}
 use Rattle.aa_raw.specs.EntriesLends.{with_values_of}
 use Rattle.aa_raw.specs.contracts.row.entries_mut.EntriesMut as token
@@ -20,7 +25,7 @@ use Rattle.aa_raw.proofs.row.entries_mut.RawVec+tuple2+K+V+A.entries_mut.Met.{me
 use Rattle.allocator_api2.proofs.vec.Vec.TheLaws as vec_laws
 use Rattle.core.proofs.mem.Facts.{says_two}
 use Rattle.std.specs.Prelude.{map, take}
-use Rattle.aa_ordered.proofs.ArenaLent.{A, Bk, Ix, K, V, block_at, index_at, the_index_laws}
+use Rattle.aa_ordered.proofs.ArenaLent.{A, Bk, Ix, K, V, block_at, index_at, used_at, the_index_laws}
 use Rattle.aa_ordered.proofs.MapLent.{Mp, begins_lent, ends_lent, leaves_at}
 use Rattle.aa_ordered.proofs.leaves.Head.TheLaws as head_laws
 use Rattle.aa_ordered.specs.Arena.{list_of, IsArena}
@@ -53,9 +58,18 @@ lend_spec 𝓤 𝓛 𝓜 𝓡 wired X Y Z LX LY LZ co cod eq eqd ce ced cp cpd g
     move ! (1 ∷ []) $ split ! $ heard ! (κX ⊑ X.lives) (λ lx. split ! $ heard ! (κY ⊑ Y.lives) (λ ly. split ! $ heard ! (κZ ⊑ Z.lives) (λ lz. drop ! $
     split ! $ split ! $ move ! (2 ∷ []) $ fsplit ! $ fsplit3 ! $ keep ! (1 ∷ 2 ∷ 4 ∷ 5 ∷ []) $
     enter ! _ _ _ _ _ $ alloc_all ! (λ l. pass_all ! refl ((tt, tt), tt) $
-    sets ! (addr ! (through ! refl (fld ! refl (fld ! refl (stop !))))) refl (tt, tt) $
     begins_lent X Y Z co ce cp g LX LY LZ 𝓛 rb ro ! tt κ q γ d (λ x tie δ n. let t = x.2.0 in
     let ao = ro + leaves_at X Y Z co ce cp g in let p = ao + block_at X Y Z g in let pi = ao + index_at X Y Z g in let half = Share.right q in
+    -- the number of lists is read
+    let pu = ao + used_at X Y Z g in
+    move ! (7 ∷ []) $ fsplit ! $
+    use1 𝓛 (‵ (fat full_share (ty_int w64) rb pu (vint w64 t.used)))
+    (uint_out 𝓛 full_share w64 t.used rb pu) $ well_typed ! (λ ok. let fit = ok.1.fits in
+    sets ! (of_opd ! (load ! (through ! refl (fld ! refl (fld ! refl (stop !)))) (look ! 0 refl)))
+    refl (tt, record { fits = fit }) $
+    use1 𝓛 (‵ (part_at usize full_share t.used rb pu)) (uint_in 𝓛 full_share w64 t.used rb pu) $
+    fjoin ! $ move ! (1 ∷ 2 ∷ 3 ∷ 4 ∷ 5 ∷ 6 ∷ 7 ∷ 0 ∷ []) $
+    sets ! (addr ! (through ! refl (fld ! refl (fld ! refl (stop !))))) refl (tt, tt) $
     let Is₀ = ShrRef (named 0) κ I in let Tok : RattleType = token.the_row (named_lft 4 0 tt κs) (K X Y Z g) (V X Y Z g) in
     move ! (3 ∷ 2 ∷ []) $ use2 𝓛 (later (‵ (I.shr_at t.heads rb pi κ) ⊛ ‵ (flft κ half)))
     ((the_index_laws X Y Z g LX LY LZ 𝓛 rb ao).shares 𝓛 t.heads κ ((κ, half) ∷ []) rb pi
@@ -87,19 +101,24 @@ lend_spec 𝓤 𝓛 𝓜 𝓡 wired X Y Z LX LY LZ co cod eq eqd ce ced cp cpd g
     ∙ ap (λ (p : Ptr). vstruct (vcons (ptr_val p) (vcons (vstruct vnil) vnil)) ∷ []) lies in
     let r' : Tok.Denot = record { ptr = block_ptr bl o; mark = record {}; name = r.name; tie = tie; places = r.places } in
     pure_i ! ((Struct (shape (token.the_type (named_lft 4 0 tt κs) (K X Y Z g) (V X Y Z g)))).own_val (block_ptr bl o, (tt, tt)) (out ∷ [])) (λ vss. (tt, (tt, ((λ uss. (tt, tt)), tt)))) ((vptr bl o ∷ [], (vstruct vnil ∷ [], tt)), (refl, (refl, ((tt, (refl, tt)), tt)))) $ fjoin ! $
-    let at_heads : Is₀.Denot = record { ref_ptr = (rb, pi); now = t.heads } in let both : Val = vstruct (vcons (vptr rb pi) (vcons out vnil)) in
+    let at_heads : Is₀.Denot = record { ref_ptr = (rb, pi); now = t.heads } in let both : Val = vstruct (vcons (vptr rb pi) (vcons (vint w64 t.used) (vcons out vnil))) in
     let lists : map (list_of r.places) (take t.used t.heads.items) ≡ x.0.leaves.lists = ap (λ cs. map (list_of cs) (take t.used t.heads.items)) same ∙ ap (λ u. u.lists) x.2.1.0 in
-    let lent : IsLent r.places t.heads.items d = record {
-      used = t.used;
+    let lent : IsLent r.places t.heads.items t.used d = record {
       arena = subst (λ cs. IsArena cs t.heads.items t.used) (sym same) x.2.1.1;
       entries = ap items_of lists ∙ ap (λ (u : R.Denot). u.entries) x.1.0;
       room = ap (λ u. capacity_of u.room) x.2.1.0 ∙ ap (λ (u : R.Denot). u.capacity) x.1.0;
     } in
     let in_order : IsOrdered co.cmp d.entries = subst (λ (u : R.Denot). IsOrdered co.cmp u.entries) x.1.0 x.1.1.ordered in
-    move ! (2 ∷ []) $ move ! (1 ∷ []) $ nothing ! $ move ! (1 ∷ 0 ∷ []) $ fjoin ! $ move ! (1 ∷ 0 ∷ []) $ fjoin ! $ feq_i ! (List Val) (both ∷ []) (both ∷ []) refl $ fjoin ! $
-    fpack ! (Valss (Is₀ ∷ Tok ∷ [])) (within (Declared.shape (tuple_type (Is₀ ∷ Tok ∷ []))) (at_heads, (r', tt)) (both ∷ [])) (vptr rb pi ∷ [], (out ∷ [], tt)) $
+    move ! (2 ∷ []) $ move ! (1 ∷ []) $ nothing ! $ move ! (1 ∷ 0 ∷ []) $ fjoin ! $
+    let count = vint w64 t.used in
+    flt_i ! t.used (2 ^ 64) fit $ feq_i ! (List Val) (count ∷ []) (count ∷ []) refl $ fjoin ! $ fjoin ! $
+    move ! (1 ∷ 0 ∷ []) $ fjoin ! $ feq_i ! (List Val) (both ∷ []) (both ∷ []) refl $ fjoin ! $
+    fpack ! (Valss (Is₀ ∷ usize ∷ Tok ∷ []))
+    (within (Declared.shape (tuple_type (Is₀ ∷ usize ∷ Tok ∷ []))) (at_heads, (t.used, (r', tt))) (both ∷ []))
+    (vptr rb pi ∷ [], (count ∷ [], (out ∷ [], tt))) $
     lands_as ! (ap only is_word) refl (tt, (tt, (tt, tt))) $
     sets ! (addr ! (through ! refl (fld ! refl (fld ! refl (stop !))))) refl (tt, tt) $ sets ! (of_opd ! (get ! refl)) refl (tt, (tt, (tt, tt))) $
-    sets ! (agg ! (and_then ! (get ! refl) (and_then ! (get ! refl) (no_more !)))) refl (tt, (tt, ((tt, (tt, tt)), tt))) $
-    returns ! (look_at ! 0 refl) $ free_all ! refl $ suffices ! _ (ends_at 𝓛 T stayed c y both (at_heads, r') (tt, tt) (tt, tt)) $
-    move ! (1 ∷ 0 ∷ []) $ nothing ! $ nothing ! $ fjoin ! $ move ! (1 ∷ 0 ∷ []) $ group ! 3 $ frame ! $ says_two ! (lent, in_order) $ done !))))))))))))))))
+    sets ! (agg ! (and_then ! (get ! refl) (and_then ! (get ! refl) (and_then ! (get ! refl) (no_more !)))))
+    refl (tt, (tt, (record { fits = fit }, ((tt, (tt, tt)), tt)))) $
+    returns ! (look_at ! 0 refl) $ free_all ! refl $ suffices ! _ (ends_at 𝓛 T stayed c y both (at_heads, t.used, r') (tt, tt) (tt, tt)) $
+    move ! (1 ∷ 0 ∷ []) $ nothing ! $ nothing ! $ fjoin ! $ move ! (1 ∷ 0 ∷ []) $ group ! 3 $ frame ! $ says_two ! (lent, in_order) $ done !)))))))))))))))))

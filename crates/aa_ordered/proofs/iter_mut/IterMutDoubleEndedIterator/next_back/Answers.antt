@@ -1,0 +1,81 @@
+use Rattle.std.proofs.Common.{◌<◌, arith, ap, length-append, rules, sym, subst, ◌∙◌}
+use Rattle.std.proofs.lemmas.List.{nil_from_length}
+use Rattle.aa_raw.specs.EntriesMut.{places_left}
+use Rattle.aa_ordered.specs.IterMut.{entries_in, IsLending}
+use Rattle.aa_ordered.proofs.Lending.{enters-last, front-same, front-some, last-same, last-taken, last-there, last-within, moves-front, stays-last}
+use Rattle.aa_ordered.proofs.iter_mut.IterMutDoubleEndedIterator.next_back.Goals as goal
+
+pub overflow_mul-self : goal.overflow_mul-self
+overflow_mul-self g c =
+    let it = c.list.self-inside in let cs = places_left it.entries in
+    let r = subst (λ hs. IsLending cs hs it.at it.end it.from it.until it.left)
+    c.in-Some.ensures.cases.0 c.list.invariant.lending in
+    omega (arith, last-within c.in-Some.head.now c.in-Some.others.now r)
+
+pub overflow_add-self : goal.overflow_add-self
+overflow_add-self g c =
+    let it = c.list.self-inside in let cs = places_left it.entries in
+    let r = subst (λ hs. IsLending cs hs it.at it.end it.from it.until it.left)
+    c.in-Some.ensures.cases.0 c.list.invariant.lending in
+    omega (arith, last-within c.in-Some.head.now c.in-Some.others.now r)
+
+pub list-preserved-in-Some : goal.list-preserved-in-Some
+list-preserved-in-Some g c =
+    let it = c.list.self-inside in let cs = places_left it.entries in
+    let inv = c.list.invariant in let cut = c.in-Some.ensures.cases.0 in
+    let r = subst (λ hs. IsLending cs hs it.at it.end it.from it.until it.left) cut inv.lending in
+    record {
+      some = inv.some;
+      lending = enters-last c.in-Some.head.now c.in-Some.others.now r c.list-test.true;
+      entries = sym (last-same c.in-Some.head.now c.in-Some.others.now r c.list-test.true)
+          ∙ ap (λ hs. entries_in cs hs it.at it.end it.from it.until) (sym cut) ∙ inv.entries;
+      borrow = inv.borrow;
+    }
+
+pub list-preserved : goal.list-preserved
+list-preserved g c =
+    let it = c.list.self-inside in let cs = places_left it.entries in let inv = c.list.invariant in
+    let none = nil_from_length it.heads.now c.in-None.ensures.cases in
+    let r = subst (λ hs. IsLending cs hs it.at it.end it.from it.until it.left) none inv.lending in
+    rw none (record {
+      some = inv.some;
+      lending = moves-front r c.list-test.true;
+      entries = sym (front-same r c.list-test.true)
+          ∙ ap (λ hs. entries_in cs hs it.at it.end it.from it.until) (sym none) ∙ inv.entries;
+      borrow = inv.borrow;
+    })
+
+pub list-smaller : goal.list-smaller
+list-smaller g c =
+    let it = c.list.self-inside in let cs = places_left it.entries in let inv = c.list.invariant in
+    let none = nil_from_length it.heads.now c.in-None.ensures.cases in
+    let r = subst (λ hs. IsLending cs hs it.at it.end it.from it.until it.left) none inv.lending in
+    omega (arith, front-some r c.list-test.true inv.some)
+
+pub take-requires : goal.take-requires
+take-requires g c =
+    let r = c.list.invariant.lending in
+    let more : c.list.self-inside.from < c.list.self-inside.until
+    = omega (arith, r.parts.back.order, c.list-test.false) in
+    last-there r more
+
+pub invariant_of-self : goal.invariant_of-self
+invariant_of-self g c =
+    let r = c.list.invariant.lending in
+    let more : c.list.self-inside.from < c.list.self-inside.until
+    = omega (arith, r.parts.back.order, c.list-test.false) in
+    let x : g.row.K.Denot × g.row.V.Denot = (c.take.result.0.now, c.take.result.1.now) in
+    rw c.take.ensures.places (stays-last r more x c.take.ensures.value)
+
+pub returns-clause-steps : goal.returns-clause-steps
+returns-clause-steps g c =
+    let r = c.list.invariant.lending in
+    let more : c.list.self-inside.from < c.list.self-inside.until
+    = omega (arith, r.parts.back.order, c.list-test.false) in
+    let x : g.row.K.Denot × g.row.V.Denot = (c.take.result.0.now, c.take.result.1.now) in
+    sym c.list.invariant.entries
+    ∙ rw c.take.ensures.places (last-taken r more x c.take.ensures.value)
+
+pub returns-clause-goes : goal.returns-clause-goes
+returns-clause-goes g c =
+    let steps = returns-clause-steps g c in search (rules, length-append)
