@@ -136,6 +136,7 @@ impl<T, A: Allocator> Leaves<T, A> {
     /// Inserts `item` at index `at` of the list at index `i`, which has fewer than 64 items.
     ///
     /// Moves the items of the list from there on up by one.
+    #[inline]
     #[tactic(auto, using(crate::proofs::Arena::in_arena))]
     pub fn insert(&mut self, i: usize, at: usize, item: T)
         requires list { i < length self.old.lists }

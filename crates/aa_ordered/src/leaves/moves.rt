@@ -11,6 +11,7 @@ use std::alloc::Allocator;
 
 /// Inserts `item` at index `at` of the first `len` values of a leaf, of which there are fewer than
 /// 64.
+#[inline]
 #[tactic(auto, using(crate::proofs::Moves::in_leaf))]
 pub(crate) fn insert_at<T, A: Allocator>(
     block: &mut RawVec<T, A>,

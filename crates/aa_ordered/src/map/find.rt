@@ -34,6 +34,7 @@ fn list_for<K: Ord, V, A: Allocator>(leaves: &Leaves<(K, V), A>, key: &K) -> usi
 }
 
 /// Returns `Ok` with the spot of a key, or `Err` with the spot at which to insert it.
+#[inline(always)]
 pub(crate) fn find<K: Ord, V, A: Allocator>(
     leaves: &Leaves<(K, V), A>,
     key: &K,

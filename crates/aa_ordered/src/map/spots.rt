@@ -175,7 +175,42 @@ fn split<T, A: Allocator>(leaves: &mut Leaves<T, A>, spot: Spot) -> Spot
     }
 }
 
+// Makes room for one more item at a spot in a full list, and returns where it is then.
+#[cold]
+#[inline(never)]
+fn make_room_slow<T, A: Allocator + Clone>(
+    leaves: &mut Leaves<T, A>,
+    spot: Spot,
+) -> Result<Spot, TryReserveError>
+    requires balanced { IsBalanced (lengths leaves.old.lists) }
+    requires list { spot.list < length leaves.old.lists }
+    requires full { length (list_at leaves.old spot.list) ≡ 64 }
+    requires within { spot.at ≤ 64 }
+    ensures fits { length (joined leaves.old.lists) < capacity_of leaves.old.room → IsOk result }
+    ensures moved { IfOk result (λ s. HasRoom leaves.old.lists
+        (position leaves.old.lists spot.list spot.at) leaves.new.lists s.list s.at) }
+    ensures room { length (joined leaves.old.lists) < capacity_of leaves.old.room
+        → leaves.new.room ≡ leaves.old.room }
+    ensures grown { (leaves.new.room ≡ leaves.old.room) ⊎ (leaves.new.room
+        ≡ max (2 * leaves.old.room) (leaves_for (length (joined leaves.old.lists) + 1))) }
+    ensures resizes { leaves.new.resizes ≡ resizes_to leaves.old leaves.new.room }
+    ensures error { IfErr result (λ e. IsErrorFor e
+        (max (2 * leaves.old.room) (leaves_for (length (joined leaves.old.lists) + 1)) * 64)) }
+    ensures unchanged { OnErr result (leaves.new ≡ leaves.old) }
+{
+    leaves.prove_bounds();
+    if len_before(leaves, spot.list) < HALF {
+        return Ok(shift_back(leaves, spot));
+    }
+    if len_from(leaves, spot.list + 1) < HALF {
+        return Ok(shift_on(leaves, spot));
+    }
+    leaves.try_reserve(1)?;
+    Ok(split(leaves, spot))
+}
+
 // Makes room for one more item at a spot, and returns where it is then.
+#[inline(always)]
 fn make_room<T, A: Allocator + Clone>(
     leaves: &mut Leaves<T, A>,
     spot: Spot,
@@ -195,21 +230,15 @@ fn make_room<T, A: Allocator + Clone>(
         (max (2 * leaves.old.room) (leaves_for (length (joined leaves.old.lists) + 1)) * 64)) }
     ensures unchanged { OnErr result (leaves.new ≡ leaves.old) }
 {
-    leaves.prove_bounds();
     if leaves.list(spot.list).len() < LEAF {
         return Ok(spot);
     }
-    if len_before(leaves, spot.list) < HALF {
-        return Ok(shift_back(leaves, spot));
-    }
-    if len_from(leaves, spot.list + 1) < HALF {
-        return Ok(shift_on(leaves, spot));
-    }
-    leaves.try_reserve(1)?;
-    Ok(split(leaves, spot))
+    make_room_slow(leaves, spot)
 }
 
 // Inserts the first item.
+#[cold]
+#[inline(never)]
 fn insert_first<T, A: Allocator + Clone>(
     leaves: &mut Leaves<T, A>,
     item: T,
@@ -239,6 +268,7 @@ fn insert_first<T, A: Allocator + Clone>(
 /// # Errors
 /// `CapacityOverflow` or `AllocError`. The lists are unchanged, and `item` is returned in the
 /// error.
+#[inline]
 pub(crate) fn insert_at<T, A: Allocator + Clone>(
     leaves: &mut Leaves<T, A>,
     spot: Spot,
