@@ -14,7 +14,7 @@ use Rattle.aa_table.specs.Contents.{fresh_capacity, fresh_resizes, reserved_capa
 use Rattle.aa_table.specs.SetOperators.{InsertsClones, IsSetOfClones}
 use Rattle.aa_table.proofs.Maps.{none_permuted}
 use Rattle.aa_table.proofs.Extending.{reserved, resized}
-use Rattle.aa_table.proofs.Elementwise.{insert-element, none-inserted}
+use Rattle.aa_table.proofs.Elementwise.{element-more, none-inserted}
 
 pub all-of : {T : Type 0} (xs : List T) → filter (λ x. true) xs ≡ xs
 all-of [] = refl
@@ -88,22 +88,25 @@ module _ {T : Type 0} (eq : T → T → Bool) where
     both-cloned s u w xs ys a b = record {
       clones = a.clones ++ b.clones;
       each = both-zipped C xs a.clones ys b.clones a.each b.each;
-      inserted = record {
-        elements = both-inserted s.elements a.clones u.elements b.clones w.elements a.inserted.elements b.inserted.elements;
-        capacity = omega (arith, a.inserted.capacity, b.inserted.capacity);
-        resizes = λ _. b.resizes ∙ a.resizes;
-        builder = b.inserted.builder ∙ a.inserted.builder;
-      };
+      elements = both-inserted s.elements a.clones u.elements b.clones w.elements a.elements b.elements;
       capacity = b.capacity ∙ a.capacity;
       resizes = b.resizes ∙ a.resizes;
+      builder = b.builder ∙ a.builder;
     }
 
     -- what fits after them
     pub still-room : (s u : SetView T S) (xs : List T) (n : ℕ) → InsertsClones eq C s xs u → SetHasRoom s (length xs + n) → SetHasRoom u n
-    still-room s u xs n a room = omega (arith, room, a.capacity, no-longer s.elements a.clones u.elements a.inserted.elements, zipped-length C xs a.clones a.each)
+    still-room s u xs n a room = omega (arith, room, a.capacity, no-longer s.elements a.clones u.elements a.elements, zipped-length C xs a.clones a.each)
 
     pub none-cloned : (s : SetView T S) → InsertsClones eq C s [] s
-    none-cloned s = record { clones = []; each = tt; inserted = record { elements = none-inserted eq s.elements; capacity = omega arith; resizes = λ _. refl; builder = refl }; capacity = refl; resizes = refl }
+    none-cloned s = record {
+      clones = [];
+      each = tt;
+      elements = none-inserted eq s.elements;
+      capacity = refl;
+      resizes = refl;
+      builder = refl;
+    }
 
     -- one element more
     pub one-cloned : IsEquivalence eq → (s w : SetView T S) (x y : T) (fresh : Bool) → C x y → SetHasRoom s 1 → fresh ≡ not (is_member eq s.elements y)
@@ -112,7 +115,9 @@ module _ {T : Type 0} (eq : T → T → Bool) where
     one-cloned E s w x y fresh c room is more made resized kept b = record {
       clones = y ∷ [];
       each = (c, tt);
-      inserted = insert-element eq E s s w [] y fresh (record { elements = none-inserted eq s.elements; capacity = omega arith; resizes = λ _. refl; builder = refl }) is more made resized kept b;
+      elements = element-more eq E s.elements [] s.elements w.elements y
+          (none-inserted eq s.elements) fresh is more
+          (λ f. ap (λ (u : SetView _ _). u.elements) (kept f));
       capacity = elim (cases_Bool fresh) [
         | inl t ↦
             let one : nat_le 1 (s.capacity - length s.elements) ≡ true = grind (arith, nat_tests, room) in
@@ -125,6 +130,7 @@ module _ {T : Type 0} (eq : T → T → Bool) where
             grind (arith, one, resized t)
         | inr f ↦ ap (λ (u : SetView _ _). u.resizes) (kept f)
       ];
+      builder = b;
     }
 
     module _ (D : S → Type 0) where
@@ -139,8 +145,8 @@ module _ {T : Type 0} (eq : T → T → Bool) where
           record {
             clones = all.clones;
             each = all.each;
-            elements = subst (λ es. HasElements eq es all.clones w.elements) (none_permuted none.elements r.elements same free) all.inserted.elements;
+            elements = subst (λ es. HasElements eq es all.clones w.elements) (none_permuted none.elements r.elements same free) all.elements;
             capacity = all.capacity ∙ made ∙ new ∙ reserved n ∙ ap fresh_capacity (count ∙ sym (length-append xs ys));
             resizes = all.resizes ∙ moved ∙ once ∙ resized n ∙ ap fresh_resizes (count ∙ sym (length-append xs ys));
-            builder = subst D (sym all.inserted.builder) d;
+            builder = subst D (sym all.builder) d;
           }

@@ -1,5 +1,5 @@
 -- Elements that are inserted one by one into a set, replaced, or cloned.
-use Rattle.std.proofs.Common.{Bool, List, [], ap, append-nil, arith, cond, false, inl, inr, length, refl, subst, sym, true, ℕ, ◌-◌, ◌++◌, ◌<◌, ◌∙◌, ◌∷◌, ◌≡◌, ◌≤◌}
+use Rattle.std.proofs.Common.{Bool, List, [], ap, append-nil, arith, cond, false, inl, inr, length, refl, subst, sym, true, ℕ, ◌-◌, ◌++◌, ◌<◌, ◌∙◌, ◌∷◌, ◌≡◌}
 use Rattle.std.specs.Prelude.{IsPermutation, is_some, map, nat_le, not, reverse, ◌||◌, if◌then◌else◌}
 use Rattle.std.specs.Cmp.{IsEquivalence}
 use Rattle.std.specs.List.{AllZip, fold}
@@ -10,9 +10,9 @@ use Rattle.std.proofs.lemmas.Bool.Decides.{nat_tests}
 use Rattle.std.proofs.lemmas.List.Folds.{list_any-append}
 use Rattle.std.proofs.lemmas.List.Sorted.{IsPermutation-cons, IsPermutation-map, IsPermutation-refl, IsPermutation-reverse, IsPermutation-trans, length_permutation, list_any-IsPermutation}
 use Rattle.std.proofs.lemmas.List.Sums.{fold-append}
-use Rattle.aa_table.specs.Contents.{value, SetsAll}
-use Rattle.aa_table.specs.SetContents.{set_capacity_for, set_resizes_for, with_element, HasElements, InsertsElements, SetHasRoom, SetView}
-use Rattle.aa_table.proofs.Extending.{more-room}
+use Rattle.aa_table.specs.Contents.{value, GrowsInTurn, SetsAll}
+use Rattle.aa_table.specs.SetContents.{no_elements, set_capacity_for, set_resizes_for, with_element, HasElements, InsertsElements, SetHasRoom, SetView}
+use Rattle.aa_table.proofs.Extending.{grows-more, grows-none}
 use Rattle.aa_table.proofs.Elements.{member}
 
 or-false : (a : Bool) → a ≡ (a || false)
@@ -85,20 +85,43 @@ module _ {T : Type 0} (eq : T → T → Bool) where
           → HasElements eq es (xs ++ x ∷ []) new
       element-more fresh is more kept = by-test (is_member eq mid x) refl (λ t. more (is ∙ t)) (λ f. kept (is ∙ f))
 
-    pub insert-element : {S : Type 0} (t u w : SetView T S) (xs : List T) (x : T) (fresh : Bool) → InsertsElements eq t xs u → fresh ≡ not (is_member eq u.elements x)
-        → (fresh ≡ true → IsPermutation (x ∷ u.elements) w.elements) → (fresh ≡ true → w.capacity ≡ set_capacity_for u 1) → (fresh ≡ true → w.resizes ≡ set_resizes_for u 1)
+    pub insert-element : {S : Type 0} (t u w : SetView T S) (xs : List T) (x : T) (fresh : Bool)
+        → InsertsElements eq t xs u → fresh ≡ not (is_member eq u.elements x)
+        → (fresh ≡ true → IsPermutation (x ∷ u.elements) w.elements)
+        → (fresh ≡ true → w.capacity ≡ set_capacity_for u 1)
+        → (fresh ≡ true → w.resizes ≡ set_resizes_for u 1)
         → (fresh ≡ false → w ≡ u) → w.builder ≡ u.builder → InsertsElements eq t (xs ++ x ∷ []) w
-    insert-element t u w xs x fresh a is more made resized kept b =
-        let one : (u.capacity ≤ w.capacity) × (w.capacity ≡ u.capacity → w.resizes ≡ u.resizes) = elim (cases_Bool fresh) [
-          | inl h ↦ (omega (arith, made h, (more-room u.resizes u.capacity (length u.elements)).0), λ same. resized h ∙ (more-room u.resizes u.capacity (length u.elements)).1 (sym (made h) ∙ same))
-          | inr f ↦ (omega (arith, ap (λ (s : SetView _ _). s.capacity) (kept f)), λ _. ap (λ (s : SetView _ _). s.resizes) (kept f))
-        ] in
-        record {
-          elements = element-more t.elements xs u.elements w.elements x a.elements fresh is more (λ f. ap (λ (s : SetView _ _). s.elements) (kept f));
-          capacity = omega (arith, a.capacity, one.0);
-          resizes = λ same. one.1 (omega (arith, same, a.capacity, one.0)) ∙ a.resizes (omega (arith, same, a.capacity, one.0));
-          builder = b ∙ a.builder;
-        }
+    insert-element t u w xs x fresh a is more made resized kept b = record {
+      elements = element-more t.elements xs u.elements w.elements x a.elements fresh is more
+          (λ f. ap (λ (s : SetView _ _). s.elements) (kept f));
+      growth = grows-more t.capacity t.resizes u.capacity u.resizes (length u.elements)
+          w.capacity w.resizes (length w.elements) a.growth (elim (cases_Bool fresh) [
+            | inl h ↦ inl (omega (arith, length_permutation (x ∷ u.elements) w.elements (more h)),
+                made h, resized h)
+            | inr f ↦ inr (ap (λ (s : SetView _ _). length s.elements) (kept f),
+                ap (λ (s : SetView _ _). s.capacity) (kept f),
+                ap (λ (s : SetView _ _). s.resizes) (kept f))
+          ]);
+      builder = b ∙ a.builder;
+    }
+
+  pub insert-no-elements : {S : Type 0} (t : SetView T S) → InsertsElements eq t [] t
+  insert-no-elements t = record {
+    elements = none-inserted t.elements;
+    growth = grows-none t.capacity t.resizes (length t.elements);
+    builder = refl;
+  }
+
+  -- what was inserted into a set without elements and blocks was inserted into an empty one
+  pub elements-fresh : {S : Type 0} (t u : SetView T S) (xs : List T) → t.elements ≡ []
+      → t.capacity ≡ 0 → t.resizes ≡ 0 → InsertsElements eq t xs u
+      → InsertsElements eq (no_elements u.builder) xs u
+  elements-fresh t u xs none zero never a = record {
+    elements = subst (λ es. HasElements eq es xs u.elements) none a.elements;
+    growth = subst (λ r. GrowsInTurn 0 r u.capacity u.resizes (length u.elements)) never
+        (subst (λ c. GrowsInTurn c t.resizes u.capacity u.resizes (length u.elements)) zero a.growth);
+    builder = refl;
+  }
 
 -- if m elements fit, one fits and then fewer others; `fresh` tells whether it was new
 pub element-room : {T S : Type 0} (u w : SetView T S) (x : T) (m n : ℕ) (fresh : Bool) → n < m → SetHasRoom u m → (fresh ≡ true → IsPermutation (x ∷ u.elements) w.elements)

@@ -1,5 +1,5 @@
 -- The contents of a table as its users see them, and its growth policy.
-use Rattle.std.specs.Prelude.{◌≡◌, ℕ, ◌+◌, ◌-◌, ◌≤◌, ◌==◌, ◌&&◌, max, nat_le, Bool, cond, if◌then◌else◌, List, [], ◌++◌, length, reverse, count_by, Option}
+use Rattle.std.specs.Prelude.{◌≡◌, ℕ, ◌+◌, ◌-◌, ◌*◌, ◌^◌, ◌≤◌, ◌==◌, ◌&&◌, max, nat_le, Bool, cond, if◌then◌else◌, List, [], ◌++◌, length, reverse, count_by, Option}
 use Rattle.std.specs.List.{list_all, AllZip}
 use Rattle.std.specs.Map.{lookup, lookup_entry}
 use Rattle.std.specs.Option.{option_eq}
@@ -26,6 +26,22 @@ fresh_capacity n = if n == 0 then 0 else max n 14
 -- the number of resizes of a new table for `n` keys
 abbrev pub fresh_resizes : (n : ℕ) → ℕ
 fresh_resizes n = if n == 0 then 0 else 1
+
+-- the least capacity to which a table with the capacity `c` grows
+abbrev pub least_growth : (c : ℕ) → ℕ
+least_growth c = max 14 (2 * c)
+
+-- a table with the capacity `c` and `r` resizes has the capacity `d` and `s` resizes, once it has
+-- `n` keys, each of which was inserted when the last one was
+pub record GrowsInTurn (c r d s n : ℕ) : Type 0 where
+  -- its capacity is no less, and the same if that is sufficient
+  pub capacity : c ≤ d
+  pub steady : n ≤ c → d ≡ c
+  -- if it grew, then to 14, or to at most twice its keys
+  pub most : d ≤ max c (max 14 (2 * n))
+  -- and each time at least to twice its capacity
+  pub resizes : r ≤ s
+  pub few : 2 ^ (s - r) * least_growth c ≤ least_growth d
 
 module _ {K V : Type 0} (eq : K → K → Bool) where
   -- the value of the key `k` in the entries `es`
@@ -58,13 +74,12 @@ module _ {K V : Type 0} (eq : K → K → Bool) where
   abbrev pub IsMap : List (K × V) → Type 0
   IsMap es = (k : K) → keys_like k es ≤ 1
 
-  -- the table `u` has the entries of `t` after each pair of `xs` was inserted in turn, the builder of
-  -- `t`, no less capacity, and as many resizes if it has no more capacity
+  -- the table `u` has the entries of `t` after each pair of `xs` was inserted in turn, and the builder
+  -- of `t`
   pub record InsertsAll {S : Type 0} (t : TableView K V S) (xs : List (K × V))
       (u : TableView K V S) : Type 0 where
     pub entries : SetsAll t.entries xs u.entries
-    pub capacity : t.capacity ≤ u.capacity
-    pub resizes : u.capacity ≡ t.capacity → u.resizes ≡ t.resizes
+    pub growth : GrowsInTurn t.capacity t.resizes u.capacity u.resizes (length u.entries)
     pub builder : u.builder ≡ t.builder
 
   -- the table `u` has clones of the entries of `t`, inserted in turn, the blocks of a new table for

@@ -2,7 +2,7 @@
 use Rattle.std.specs.Prelude.{◌≡◌, ℕ, ◌-◌, ◌≤◌, ◌&&◌, Bool, List, [], ◌∷◌, map, length, count_by, if◌then◌else◌, IsPermutation}
 use Rattle.std.specs.List.{fold, list_all, AllZip}
 use Rattle.std.specs.Set.{is_member, IsUnion}
-use Rattle.aa_table.specs.Contents.{fresh_capacity, fresh_resizes, reserved_capacity, reserved_resizes, TableView}
+use Rattle.aa_table.specs.Contents.{fresh_capacity, fresh_resizes, reserved_capacity, reserved_resizes, GrowsInTurn, TableView}
 
 -- the view of a set: its elements in the order of `iter`, the number of elements that it can hold
 -- without another allocation, the number of times that it moved to new blocks, and the builder of
@@ -58,13 +58,11 @@ module _ {T : Type 0} (eq : T → T → Bool) where
     pub elements : IsPermutation (fold with_element es xs) new
     pub members : IsUnion eq es xs new
 
-  -- the set `u` has the elements of `s` after each of `xs` was inserted in turn, the builder of `s`,
-  -- no less capacity, and as many resizes if it has no more capacity
+  -- the set `u` has the elements of `s` after each of `xs` was inserted in turn, and the builder of `s`
   pub record InsertsElements {S : Type 0} (s : SetView T S) (xs : List T) (u : SetView T S)
       : Type 0 where
     pub elements : HasElements s.elements xs u.elements
-    pub capacity : s.capacity ≤ u.capacity
-    pub resizes : u.capacity ≡ s.capacity → u.resizes ≡ s.resizes
+    pub growth : GrowsInTurn s.capacity s.resizes u.capacity u.resizes (length u.elements)
     pub builder : u.builder ≡ s.builder
 
   -- the set `u` has clones of the elements of `s`, where equal clones are one, the blocks of a new set

@@ -5,7 +5,7 @@ use Rattle.std.specs.Set.{is_member}
 use Rattle.allocator_api2.specs.Errors.{IsErrorFor}
 use Rattle.allocator_api2.specs.declared.collections.TryReserveError.{TryReserveError}
 use Rattle.aa_table.specs.Contents.{fresh_capacity, fresh_resizes}
-use Rattle.aa_table.specs.SetContents.{HasElements, InsertsElements, SetView}
+use Rattle.aa_table.specs.SetContents.{HasElements, SetView}
 use Rattle.aa_table.specs.declared.set.operators.Part.{Part}
 use Rattle.aa_table.specs.declared.set.operators.Part.TheVariants.{All, Common, Own, Nothing}
 
@@ -27,9 +27,10 @@ module _ {T : Type 0} (eq : T → T → Bool) where
     pub record InsertsClones (s : SetView T S) (xs : List T) (u : SetView T S) : Type 0 where
       pub clones : List T
       pub each : AllZip C xs clones
-      pub inserted : InsertsElements eq s clones u
+      pub elements : HasElements eq s.elements clones u.elements
       pub capacity : u.capacity ≡ s.capacity
       pub resizes : u.resizes ≡ s.resizes
+      pub builder : u.builder ≡ s.builder
 
     module _ (D : S → Type 0) (xs : List T) where
       -- the set `s` has a clone of each of `xs`, where equal clones are one, the blocks of a new set

@@ -3,7 +3,7 @@ ghost use Rattle.std.specs.Prelude.{◌≡◌, List, length, [], Err, IfErr, IfO
 ghost use Rattle.std.specs.Iterator.{Drains, ExtendsWithItems, IsFiniteIterable, size};
 ghost use Rattle.std.specs.Iterator.Runs.{WholeRun};
 ghost use Rattle.aa_table.specs.Full.{LacksRoom};
-ghost use Rattle.aa_table.specs.Contents.{capacity_for, empty, HasRoom, InsertsAll, SetsAll, TableView};
+ghost use Rattle.aa_table.specs.Contents.{capacity_for, empty, HasRoom, InsertsAll, TableView};
 
 use crate::table::Table;
 use allocator_api2::collections::TryReserveError;
@@ -67,9 +67,10 @@ impl<K: Eq + Hash + Drop, V: Drop, A: Allocator + Clone> Table<
             U.IntoIter.remaining iter }
         ensures collected { IfOk result (λ t. (it : U.IntoIter) × (xs : List (K × V))
             × U.into_iter_gives iter it × Drains U.IntoIter.next_gives it xs
-            × SetsAll K.eq [] xs t.entries) }
+            × InsertsAll K.eq (empty t.builder) xs t) }
         ensures runs { IfOk result (λ t. (it : U.IntoIter) × U.into_iter_gives iter it
-            × WholeRun U.IntoIter.next_gives it (λ p. SetsAll K.eq [] p.items t.entries)) }
+            × WholeRun U.IntoIter.next_gives it
+            (λ p. InsertsAll K.eq (empty t.builder) p.items t)) }
         ensures fits { ((it : U.IntoIter) → U.into_iter_gives iter it
             → size (U.IntoIter.remaining it) ≡ 0) → IsOk result }
         ensures failed { IfErr result (λ e. (t : TableView K V (BuildHasherDefault FoldHasher))
@@ -116,7 +117,7 @@ impl<
 > FromIterator<(K, V)> for Table<K, V, S, A> {
     type Alloc = A;
 
-    ghost from_iter_gives = { λ xs t. SetsAll K.eq [] xs t.entries };
+    ghost from_iter_gives = { λ xs t. InsertsAll K.eq (empty t.builder) xs t };
 
     /// Returns a table of the items, with a default builder of hashers.
     fn from_iter<U: IntoIterator<Item = (K, V)>>(alloc: A, iter: U) -> Result<Self, AllocError>
@@ -124,7 +125,7 @@ impl<
             U.IntoIter.remaining iter }
         ensures collected { IfOk result (λ t. (it : U.IntoIter) × (xs : List (K × V))
             × U.into_iter_gives iter it × Drains U.IntoIter.next_gives it xs
-            × SetsAll K.eq [] xs t.entries) }
+            × InsertsAll K.eq (empty t.builder) xs t) }
         ensures fits { ((it : U.IntoIter) → U.into_iter_gives iter it
             → size (U.IntoIter.remaining it) ≡ 0) → IsOk result }
     {

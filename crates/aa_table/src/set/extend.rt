@@ -3,7 +3,7 @@ ghost use Rattle.std.specs.Prelude.{◌≡◌, List, length, [], Err, IfErr, IfO
 ghost use Rattle.std.specs.Iterator.{Drains, ExtendsWithItems, IsFiniteIterable, size};
 ghost use Rattle.std.specs.Iterator.Runs.{WholeRun};
 ghost use Rattle.aa_table.specs.Full.{LacksRoom};
-ghost use Rattle.aa_table.specs.SetContents.{no_elements, set_capacity_for, HasElements, InsertsElements, SetHasRoom, SetView};
+ghost use Rattle.aa_table.specs.SetContents.{no_elements, set_capacity_for, InsertsElements, SetHasRoom, SetView};
 
 use super::Set;
 use allocator_api2::collections::TryReserveError;
@@ -61,9 +61,10 @@ impl<T: Eq + Hash + Drop, A: Allocator + Clone> Set<T, BuildHasherDefault<FoldHa
             U.IntoIter.remaining iter }
         ensures collected { IfOk result (λ s. (it : U.IntoIter) × (xs : List T)
             × U.into_iter_gives iter it × Drains U.IntoIter.next_gives it xs
-            × HasElements T.eq [] xs s.elements) }
+            × InsertsElements T.eq (no_elements s.builder) xs s) }
         ensures runs { IfOk result (λ s. (it : U.IntoIter) × U.into_iter_gives iter it
-            × WholeRun U.IntoIter.next_gives it (λ p. HasElements T.eq [] p.items s.elements)) }
+            × WholeRun U.IntoIter.next_gives it
+            (λ p. InsertsElements T.eq (no_elements s.builder) p.items s)) }
         ensures fits { ((it : U.IntoIter) → U.into_iter_gives iter it
             → size (U.IntoIter.remaining it) ≡ 0) → IsOk result }
         ensures failed { IfErr result (λ e. (s : SetView T (BuildHasherDefault FoldHasher))
@@ -105,7 +106,7 @@ impl<T: Eq + Hash + Drop, S: BuildHasher + Default + Drop, A: Allocator + Clone>
     for Set<T, S, A> {
     type Alloc = A;
 
-    ghost from_iter_gives = { λ xs s. HasElements T.eq [] xs s.elements };
+    ghost from_iter_gives = { λ xs s. InsertsElements T.eq (no_elements s.builder) xs s };
 
     /// Returns a set of the items, with a default builder of hashers.
     fn from_iter<U: IntoIterator<Item = T>>(alloc: A, iter: U) -> Result<Self, AllocError>
@@ -113,7 +114,7 @@ impl<T: Eq + Hash + Drop, S: BuildHasher + Default + Drop, A: Allocator + Clone>
             U.IntoIter.remaining iter }
         ensures collected { IfOk result (λ s. (it : U.IntoIter) × (xs : List T)
             × U.into_iter_gives iter it × Drains U.IntoIter.next_gives it xs
-            × HasElements T.eq [] xs s.elements) }
+            × InsertsElements T.eq (no_elements s.builder) xs s) }
         ensures fits { ((it : U.IntoIter) → U.into_iter_gives iter it
             → size (U.IntoIter.remaining it) ≡ 0) → IsOk result }
     {

@@ -1,13 +1,13 @@
-use Rattle.std.proofs.Common.{arith, refl, rules, ◌∙◌}
+use Rattle.std.proofs.Common.{refl, rules, ◌∙◌}
 use Rattle.std.specs.Iterator.{size, Drains}
 use Rattle.std.proofs.iter.runs.Consumers.{total_runs}
 use Rattle.aa_table.specs.SetContents.{InsertsElements}
-use Rattle.aa_table.proofs.Elementwise.{element-room, element-steady, insert-element, none-inserted}
+use Rattle.aa_table.proofs.Elementwise.{element-room, element-steady, insert-element, insert-no-elements}
 use Rattle.aa_table.proofs.set.Set.extend.Goals as goal
 
 pub each-init : goal.each-init
 each-init g c = record {
-  inserted = record { elements = none-inserted g.T.PartialEq.eq c.args.self.now.elements; capacity = omega arith; resizes = λ _. refl; builder = refl };
+  inserted = insert-no-elements g.T.PartialEq.eq c.args.self.now;
   steady = λ _. (refl, refl);
   room = λ all. all c.into_iter-value-iterator.result c.into_iter-value-iterator.ensures.into_iter_gives;
 }

@@ -3,12 +3,12 @@ use Rattle.std.specs.Prelude.{is_some}
 use Rattle.std.specs.Iterator.{size, Drains}
 use Rattle.std.proofs.iter.runs.Consumers.{total_runs}
 use Rattle.aa_table.specs.Contents.{InsertsAll}
-use Rattle.aa_table.proofs.Extending.{insert-more, room-after, steady-after}
+use Rattle.aa_table.proofs.Extending.{insert-more, insert-none, room-after, steady-after}
 use Rattle.aa_table.proofs.table.Table.extend.Goals as goal
 
 pub each-init : goal.each-init
 each-init g c = record {
-  inserted = record { entries = λ q. refl; capacity = omega arith; resizes = λ _. refl; builder = refl };
+  inserted = insert-none g.K.PartialEq.eq c.args.self.now;
   steady = λ _. (refl, refl);
   room = λ all. all c.into_iter-entry-iterator.result c.into_iter-entry-iterator.ensures.into_iter_gives;
 }
@@ -18,7 +18,7 @@ each-preserved g c =
     let e = c.in-Ok.ensures in let inv = c.each.invariant in let left = g.U.IntoIter.Iterator.remaining in
     let fewer = (c.in-Some.ensures.goes.on c.each.iterator.1).2 in
     record {
-      inserted = insert-more g.K.PartialEq.eq c.args.self.now c.each.self c.insert.new.self c.each.yielded c.in-Some.entry (is_some c.in-Ok.old) inv.inserted e.inserted e.builder e.made e.replaced e.resized e.steady;
+      inserted = insert-more g.K.PartialEq.eq c.args.self.now c.each.self c.insert.new.self c.each.yielded c.in-Some.entry (is_some c.in-Ok.old) inv.inserted e.inserted e.builder e.one_more e.replaced_count e.made e.replaced e.resized e.steady;
       room = λ all. room-after c.each.self c.insert.new.self (size (left c.each.entry-iterator)) (size (left c.next.new.self)) (is_some c.in-Ok.old) fewer (inv.room all) e.one_more e.replaced_count e.made e.replaced;
       steady = λ all.
           let one = steady-after c.each.self c.insert.new.self (size (left c.each.entry-iterator)) (size (left c.next.new.self)) (is_some c.in-Ok.old) fewer (inv.room all) e.made e.replaced e.resized e.steady in
