@@ -96,11 +96,16 @@ module _ {T : Type 0} (eq : T → T → Bool) where
           (λ f. ap (λ (s : SetView _ _). s.elements) (kept f));
       growth = grows-more t.capacity t.resizes u.capacity u.resizes (length u.elements)
           w.capacity w.resizes (length w.elements) a.growth (elim (cases_Bool fresh) [
-            | inl h ↦ inl (omega (arith, length_permutation (x ∷ u.elements) w.elements (more h)),
-                made h, resized h)
-            | inr f ↦ inr (ap (λ (s : SetView _ _). length s.elements) (kept f),
-                ap (λ (s : SetView _ _). s.capacity) (kept f),
-                ap (λ (s : SetView _ _). s.resizes) (kept f))
+            | inl h ↦ inl (
+              omega (arith, length_permutation (x ∷ u.elements) w.elements (more h)),
+              made h,
+              resized h,
+            )
+            | inr f ↦ inr (
+              ap (λ (s : SetView _ _). length s.elements) (kept f),
+              ap (λ (s : SetView _ _). s.capacity) (kept f),
+              ap (λ (s : SetView _ _). s.resizes) (kept f),
+            )
           ]);
       builder = b ∙ a.builder;
     }

@@ -10,7 +10,7 @@ ghost use Rattle.aa_table.specs.Slots.{tag_at, HasPlaces, IsIndex, IsMemory, IsS
 ghost use Rattle.aa_table.specs.Places.{hashes, hashes_of, tags_of, AreFree, AreHeld, AreHeldBetween, IsIndexed};
 ghost use Rattle.aa_table.specs.Walks.{AreGroups};
 
-use crate::index::{HashIndex, hash_of, put_new, tags_in};
+use crate::index::{HashIndex, hash_of, tags_in};
 use crate::slots::{GROUP_SIZE, Overflow, is_free};
 use crate::walk::taken_in;
 use allocator_api2::collections::{TryReserveError, TryReserveErrorKind};
@@ -190,7 +190,7 @@ fn move_all<K: Eq + Hash, V, S: BuildHasher, A: Allocator>(
         if !is_free(tags, slot) {
             let entry = from.take(slot);
             let hash = hash_of(builder, &entry.0);
-            put_new(index, to, hash, entry);
+            index.put_new(to, hash, entry);
         }
     }
 }

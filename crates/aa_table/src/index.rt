@@ -45,128 +45,228 @@ fn is_at<K: Eq + Hash, V, A: Allocator, Q: Lookup<K>>(
     key.matches(&places.place(slot).0)
 }
 
-// Returns the slot of the key in the group from `from` on, or `None` if no slot with this tag has
-// it.
-#[inline]
-fn slot_with<K: Eq + Hash, V, A: Allocator, Q: Lookup<K>>(
-    tags: &[u8],
-    from: usize,
-    tag: u8,
-    places: &RawVec<(K, V), A>,
-    key: Q,
-) -> Option<usize>
-    requires room { from + 16 ≤ length tags.now }
-    requires held { AreHeld tags.now places.now.places }
-    requires tag { tag ≢ 0 }
-    ensures some { IfSome result (λ s. (s < length tags.now)
-        × (key_at (Q.matches key) places.now.places s ≡ true)) }
-    ensures none { IfNone result (Lacks (Q.matches key) tags.now places.now.places from tag) }
-{
-    let mut past = 0;
-    'each: while past < GROUP_SIZE {
-        let Some(slot) = slot_past(tags, from, past, tag) else {
-            return None;
-        };
-        if is_at(places, slot, key) {
-            return Some(slot);
-        }
-        past = slot - from + 1;
-    }
-    None
-}
-
-// Returns the slot of a key outside its home group, searching group by group.
-#[cold]
-#[inline(never)]
-fn find_overflow<K: Eq + Hash, V, A: Allocator, Q: Lookup<K>>(
-    tags: &[u8],
-    overflows: &[Overflow],
-    places: &RawVec<(K, V), A>,
-    hash: u64,
-    key: Q,
-) -> Option<usize>
-    requires slots { IsSlots tags.now overflows.now }
-    requires held { AreHeld tags.now places.now.places }
-    ensures some { IfSome result (λ s. (s < length tags.now)
-        × (key_at (Q.matches key) places.now.places s ≡ true)) }
-    ensures none { IfNone result ((step : ℕ) → step < reach_of overflows.now (length tags.now) hash
-        → Lacks (Q.matches key) tags.now places.now.places
-        (probe_start (length tags.now) hash (suc step)) (tag_of hash)) }
-{
-    let tag = tag(hash);
-    let from = home(hash, tags.len());
-    let groups = tags.len() / GROUP_SIZE;
-    'each: for before in 0..reach(overflows, from, groups) {
-        let at = probe_group(from / GROUP_SIZE, before + 1, groups);
-        if let Some(slot) = slot_with(tags, at * GROUP_SIZE, tag, places, key) {
-            return Some(slot);
-        }
-    }
-    None
-}
-
-// Like `find`, but never inlined: compares all slots with the tag, in the home group and after it.
-#[cold]
-#[inline(never)]
-fn find_slow<K: Eq + Hash, V, A: Allocator, Q: Lookup<K>>(
-    tags: &[u8],
-    overflows: &[Overflow],
-    places: &RawVec<(K, V), A>,
-    hash: u64,
-    key: Q,
-) -> Option<usize>
-    requires slots { IsSlots tags.now overflows.now }
-    requires held { AreHeld tags.now places.now.places }
-    requires reachable { IsReachable (Q.matches key) tags.now overflows.now places.now.places hash }
-    ensures found { IfSome result (λ s. (s < length tags.now)
-        × (key_at (Q.matches key) places.now.places s ≡ true)) }
-    ensures absent { IfNone result ((s : ℕ) → key_at (Q.matches key) places.now.places s ≡ false) }
-{
-    let from = home(hash, tags.len());
-    if let Some(slot) = slot_with(tags, from, tag(hash), places, key) {
-        return Some(slot);
-    }
-    if has_overflow(overflows, from) {
-        find_overflow(tags, overflows, places, hash, key)
-    } else {
-        None
-    }
-}
-
-/// Returns the slot of a key with this hash, or `None` if the key is absent.
-///
-/// Compares `key` with the first key of the home group that has its tag. The search continues only
-/// if that is another key, or if keys overflowed the home group.
-#[inline(always)]
-pub fn find<K: Eq + Hash, V, A: Allocator, Q: Lookup<K>>(
-    tags: &[u8],
-    overflows: &[Overflow],
-    places: &RawVec<(K, V), A>,
-    hash: u64,
-    key: Q,
-) -> Option<usize>
-    requires slots { IsSlots tags.now overflows.now }
-    requires held { AreHeld tags.now places.now.places }
-    requires reachable { IsReachable (Q.matches key) tags.now overflows.now places.now.places hash }
-    ensures found { IfSome result (λ s. (s < length tags.now)
-        × (key_at (Q.matches key) places.now.places s ≡ true)) }
-    ensures absent { IfNone result ((s : ℕ) → key_at (Q.matches key) places.now.places s ≡ false) }
-{
-    let from = home(hash, tags.len());
-    match slot_of(tags, from, tag(hash)) {
-        Some(slot) => {
+impl<A: Allocator> HashIndex<A> {
+    // Returns the slot of the key in the group from `from` on, or `None` if no slot with this tag
+    // has it.
+    #[inline]
+    fn slot_with<K: Eq + Hash, V, Q: Lookup<K>>(
+        &self,
+        from: usize,
+        tag: u8,
+        places: &RawVec<(K, V), A>,
+        key: Q,
+    ) -> Option<usize>
+        requires room { from + 16 ≤ length self.now.tags.items }
+        requires held { AreHeld self.now.tags.items places.now.places }
+        requires tag { tag ≢ 0 }
+        ensures some { IfSome result (λ s. (s < length self.now.tags.items)
+            × (key_at (Q.matches key) places.now.places s ≡ true)) }
+        ensures none { IfNone result
+            (Lacks (Q.matches key) self.now.tags.items places.now.places from tag) }
+    {
+        let mut past = 0;
+        'each: while past < GROUP_SIZE {
+            let Some(slot) = slot_past(self.tags.as_slice(), from, past, tag) else {
+                return None;
+            };
             if is_at(places, slot, key) {
                 return Some(slot);
             }
+            past = slot - from + 1;
         }
-        None => {
-            if has_overflow(overflows, from) {
-                return find_overflow(tags, overflows, places, hash, key);
+        None
+    }
+
+    // Returns the slot of a key outside its home group, searching group by group.
+    #[cold]
+    #[inline(never)]
+    fn find_overflow<K: Eq + Hash, V, Q: Lookup<K>>(
+        &self,
+        places: &RawVec<(K, V), A>,
+        hash: u64,
+        key: Q,
+    ) -> Option<usize>
+        requires slots { IsSlots self.now.tags.items self.now.overflows.items }
+        requires held { AreHeld self.now.tags.items places.now.places }
+        ensures some { IfSome result (λ s. (s < length self.now.tags.items)
+            × (key_at (Q.matches key) places.now.places s ≡ true)) }
+        ensures none { let n = length self.now.tags.items in
+            IfNone result ((step : ℕ) → step < reach_of self.now.overflows.items n hash
+            → Lacks (Q.matches key) self.now.tags.items places.now.places
+            (probe_start n hash (suc step)) (tag_of hash)) }
+    {
+        let tag = tag(hash);
+        let from = home(hash, self.tags.len());
+        let groups = self.tags.len() / GROUP_SIZE;
+        'each: for before in 0..reach(self.overflows.as_slice(), from, groups) {
+            let at = probe_group(from / GROUP_SIZE, before + 1, groups);
+            if let Some(slot) = self.slot_with(at * GROUP_SIZE, tag, places, key) {
+                return Some(slot);
             }
-            return None;
+        }
+        None
+    }
+
+    // Like `find`, but never inlined: compares all slots with the tag, in the home group and after
+    // it.
+    #[cold]
+    #[inline(never)]
+    fn find_slow<K: Eq + Hash, V, Q: Lookup<K>>(
+        &self,
+        places: &RawVec<(K, V), A>,
+        hash: u64,
+        key: Q,
+    ) -> Option<usize>
+        requires slots { IsSlots self.now.tags.items self.now.overflows.items }
+        requires held { AreHeld self.now.tags.items places.now.places }
+        requires reachable { IsReachable (Q.matches key) self.now.tags.items
+            self.now.overflows.items places.now.places hash }
+        ensures found { IfSome result (λ s. (s < length self.now.tags.items)
+            × (key_at (Q.matches key) places.now.places s ≡ true)) }
+        ensures absent { IfNone result
+            ((s : ℕ) → key_at (Q.matches key) places.now.places s ≡ false) }
+    {
+        let from = home(hash, self.tags.len());
+        if let Some(slot) = self.slot_with(from, tag(hash), places, key) {
+            return Some(slot);
+        }
+        if has_overflow(self.overflows.as_slice(), from) {
+            self.find_overflow(places, hash, key)
+        } else {
+            None
         }
     }
-    find_slow(tags, overflows, places, hash, key)
+
+    /// Returns the slot of a key with this hash, or `None` if the key is absent.
+    ///
+    /// Compares `key` with the first key of the home group that has its tag. The search continues
+    /// only if that is another key, or if keys overflowed the home group.
+    #[inline(always)]
+    pub fn find<K: Eq + Hash, V, Q: Lookup<K>>(
+        &self,
+        places: &RawVec<(K, V), A>,
+        hash: u64,
+        key: Q,
+    ) -> Option<usize>
+        requires slots { IsSlots self.now.tags.items self.now.overflows.items }
+        requires held { AreHeld self.now.tags.items places.now.places }
+        requires reachable { IsReachable (Q.matches key) self.now.tags.items
+            self.now.overflows.items places.now.places hash }
+        ensures found { IfSome result (λ s. (s < length self.now.tags.items)
+            × (key_at (Q.matches key) places.now.places s ≡ true)) }
+        ensures absent { IfNone result
+            ((s : ℕ) → key_at (Q.matches key) places.now.places s ≡ false) }
+    {
+        let from = home(hash, self.tags.len());
+        match slot_of(self.tags.as_slice(), from, tag(hash)) {
+            Some(slot) => {
+                if is_at(places, slot, key) {
+                    return Some(slot);
+                }
+            }
+            None => {
+                if has_overflow(self.overflows.as_slice(), from) {
+                    return self.find_overflow(places, hash, key);
+                }
+                return None;
+            }
+        }
+        self.find_slow(places, hash, key)
+    }
+
+    // Returns `true` only if the slot has the key that `key` looks up.
+    #[inline(always)]
+    fn has_at<K: Eq + Hash, V, Q: Lookup<K>>(
+        &self,
+        places: &RawVec<(K, V), A>,
+        slot: usize,
+        key: Q,
+    ) -> bool
+        requires { AreHeld self.now.tags.items places.now.places }
+        ensures { IsTrue result → (slot < length self.now.tags.items)
+            × (key_at (Q.matches key) places.now.places slot ≡ true) }
+    {
+        slot < self.tags.len() && !is_free(self.tags.as_slice(), slot) && is_at(places, slot, key)
+    }
+
+    /// Inserts an absent key with its value into a free slot, and returns the slot.
+    ///
+    /// Does not allocate.
+    #[inline(always)]
+    pub fn put_new<K: Eq, V>(
+        &mut self,
+        places: &mut RawVec<(K, V), A>,
+        hash: u64,
+        entry: (K, V),
+    ) -> usize
+        // There is a free slot, and a place for each slot.
+        requires slots { IsSlots self.old.tags.items self.old.overflows.items }
+        requires free { 0 < count_by (λ t. t == 0) self.old.tags.items }
+        requires places { length self.old.tags.items ≤ length places.old.places }
+
+        // The result was free, and has the entry and the tag of the hash.
+        ensures within { result < length self.old.tags.items }
+        ensures was_free { tag_at self.old.tags.items result ≡ 0 }
+        ensures tags { self.new.tags.items ≡ slice_set self.old.tags.items result (tag_of hash) }
+        ensures put { places.new.places ≡ slice_set places.old.places result (Some entry) }
+
+        // The index remains one, with the hash in this slot.
+        ensures index { (hs : List (Option ℕ))
+            → IsIndex self.old.tags.items self.old.overflows.items hs
+            → IsIndex self.new.tags.items self.new.overflows.items
+            (slice_set hs result (Some hash)) }
+    {
+        let slot = put(
+            self.tags.as_mut_slice(),
+            self.overflows.as_mut_slice(),
+            hash,
+        );
+        places.put(slot, entry);
+        slot
+    }
+
+    /// Removes a key with its value from its slot, and returns them.
+    ///
+    /// Does not allocate.
+    #[inline(always)]
+    pub fn take_out<K: Eq, V>(
+        &mut self,
+        places: &mut RawVec<(K, V), A>,
+        hash: u64,
+        slot: usize,
+    ) -> (K, V)
+        // The slot has an entry.
+        requires slots { IsSlots self.old.tags.items self.old.overflows.items }
+        requires within { slot < length self.old.tags.items }
+        requires filled { IsFilled places.old.places slot }
+
+        // The entry is returned, and the slot is free.
+        ensures value { get_or places.old.places slot None ≡ Some result }
+        ensures taken { places.new.places ≡ slice_set places.old.places slot None }
+        ensures tags { self.new.tags.items ≡ slice_set self.old.tags.items slot 0 }
+
+        // The index remains one, without a hash in this slot.
+        ensures index { (hs : List (Option ℕ))
+            → IsIndex self.old.tags.items self.old.overflows.items hs
+            → get_or hs slot None ≡ Some hash
+            → IsIndex self.new.tags.items self.new.overflows.items (slice_set hs slot None) }
+    {
+        release(
+            self.tags.as_mut_slice(),
+            self.overflows.as_mut_slice(),
+            hash,
+            slot,
+        );
+        places.take(slot)
+    }
+
+    /// Frees all slots.
+    pub fn clear(&mut self)
+        ensures tags { self.new.tags.items ≡ replicate (length self.old.tags.items) 0 }
+        ensures overflows { length self.new.overflows.items ≡ length self.old.overflows.items }
+    {
+        clear_all(self.tags.as_mut_slice(), self.overflows.as_mut_slice());
+    }
 }
 
 /// Returns the slot of a key with this hash, or `None` if the key is absent or there is no index.
@@ -183,30 +283,9 @@ pub fn find_in<K: Eq + Hash, V, A: Allocator, Q: Lookup<K>>(
     ensures absent { IfNone result ((s : ℕ) → key_at (Q.matches key) places.now.places s ≡ false) }
 {
     match index {
-        Some(made) => find(
-            made.tags.as_slice(),
-            made.overflows.as_slice(),
-            places,
-            hash,
-            key,
-        ),
+        Some(made) => made.find(places, hash, key),
         None => None,
     }
-}
-
-// Returns `true` only if the slot has the key that `key` looks up.
-#[inline(always)]
-fn has_at<K: Eq + Hash, V, A: Allocator, Q: Lookup<K>>(
-    tags: &[u8],
-    places: &RawVec<(K, V), A>,
-    slot: usize,
-    key: Q,
-) -> bool
-    requires { AreHeld tags.now places.now.places }
-    ensures { IsTrue result → (slot < length tags.now)
-        × (key_at (Q.matches key) places.now.places slot ≡ true) }
-{
-    slot < tags.len() && !is_free(tags, slot) && is_at(places, slot, key)
 }
 
 /// Like `find_in`, but hashes the key and searches for it only if it is not in the slot `hint`.
@@ -226,85 +305,14 @@ pub fn find_near<K: Eq + Hash, V, S: BuildHasher, A: Allocator, Q: Lookup<K>>(
 {
     match index {
         Some(made) => {
-            let tags = made.tags.as_slice();
-            if has_at(tags, places, hint, key) {
+            if made.has_at(places, hint, key) {
                 return Some(hint);
             }
             let hash = hash_of(builder, &key);
-            find(tags, made.overflows.as_slice(), places, hash, key)
+            made.find(places, hash, key)
         }
         None => None,
     }
-}
-
-/// Inserts an absent key with its value into a free slot, and returns the slot.
-///
-/// Does not allocate.
-#[inline(always)]
-pub fn put_new<K: Eq, V, A: Allocator>(
-    index: &mut HashIndex<A>,
-    places: &mut RawVec<(K, V), A>,
-    hash: u64,
-    entry: (K, V),
-) -> usize
-    // There is a free slot, and a place for each slot.
-    requires slots { IsSlots index.old.tags.items index.old.overflows.items }
-    requires free { 0 < count_by (λ t. t == 0) index.old.tags.items }
-    requires places { length index.old.tags.items ≤ length places.old.places }
-
-    // The result was free, and has the entry and the tag of the hash.
-    ensures within { result < length index.old.tags.items }
-    ensures was_free { tag_at index.old.tags.items result ≡ 0 }
-    ensures tags { index.new.tags.items ≡ slice_set index.old.tags.items result (tag_of hash) }
-    ensures put { places.new.places ≡ slice_set places.old.places result (Some entry) }
-
-    // The index remains one, with the hash in this slot.
-    ensures index { (hs : List (Option ℕ))
-        → IsIndex index.old.tags.items index.old.overflows.items hs
-        → IsIndex index.new.tags.items index.new.overflows.items (slice_set hs result (Some hash)) }
-{
-    let slot = put(
-        index.tags.as_mut_slice(),
-        index.overflows.as_mut_slice(),
-        hash,
-    );
-    places.put(slot, entry);
-    slot
-}
-
-/// Removes a key with its value from its slot, and returns them.
-///
-/// Does not allocate.
-#[inline(always)]
-pub fn take_out<K: Eq, V, A: Allocator>(
-    index: &mut HashIndex<A>,
-    places: &mut RawVec<(K, V), A>,
-    hash: u64,
-    slot: usize,
-) -> (K, V)
-    // The slot has an entry.
-    requires slots { IsSlots index.old.tags.items index.old.overflows.items }
-    requires within { slot < length index.old.tags.items }
-    requires filled { IsFilled places.old.places slot }
-
-    // The entry is returned, and the slot is free.
-    ensures value { get_or places.old.places slot None ≡ Some result }
-    ensures taken { places.new.places ≡ slice_set places.old.places slot None }
-    ensures tags { index.new.tags.items ≡ slice_set index.old.tags.items slot 0 }
-
-    // The index remains one, without a hash in this slot.
-    ensures index { (hs : List (Option ℕ))
-        → IsIndex index.old.tags.items index.old.overflows.items hs
-        → get_or hs slot None ≡ Some hash
-        → IsIndex index.new.tags.items index.new.overflows.items (slice_set hs slot None) }
-{
-    release(
-        index.tags.as_mut_slice(),
-        index.overflows.as_mut_slice(),
-        hash,
-        slot,
-    );
-    places.take(slot)
 }
 
 /// Returns the tags of all slots, or an empty slice if there is no index.
@@ -316,12 +324,4 @@ pub fn tags_in<A: Allocator>(index: &Option<HashIndex<A>>) -> &[u8]
         Some(made) => made.tags.as_slice(),
         None => &[],
     }
-}
-
-/// Frees all slots.
-pub fn free_all<A: Allocator>(index: &mut HashIndex<A>)
-    ensures tags { index.new.tags.items ≡ replicate (length index.old.tags.items) 0 }
-    ensures overflows { length index.new.overflows.items ≡ length index.old.overflows.items }
-{
-    clear_all(index.tags.as_mut_slice(), index.overflows.as_mut_slice());
 }

@@ -10,7 +10,7 @@ ghost use Rattle.aa_table.specs.Shrinking.{CountsShrink, SameSlots};
 ghost use Rattle.aa_table.specs.Places.{hashes};
 
 use crate::growth::{MIN_CAPACITY, drop_between, fit, fresh_capacity, resize};
-use crate::index::{HashIndex, find_in, free_all, hash_of, put_new, tags_in, take_out};
+use crate::index::{HashIndex, find_in, hash_of, tags_in};
 use crate::into_parts::{IntoKeys, IntoValues};
 use crate::iter::{IntoIter, Iter, Keys, Values};
 use crate::lookup::Lookup;
@@ -319,7 +319,7 @@ impl<K: Eq + Hash + Drop, V: Drop, S: BuildHasher, A: Allocator + Clone> Table<K
     {
         match &mut self.index {
             Some(index) => {
-                put_new(index, &mut self.places, hash, (key, item));
+                index.put_new(&mut self.places, hash, (key, item));
             }
             None => unreachable!(),
         }
@@ -556,7 +556,7 @@ impl<K: Eq + Hash + Drop, V: Drop, S: BuildHasher, A: Allocator + Clone> Table<K
             return None;
         };
         let entry = match &mut self.index {
-            Some(index) => take_out(index, &mut self.places, hash, slot),
+            Some(index) => index.take_out(&mut self.places, hash, slot),
             None => unreachable!(),
         };
         self.count -= 1;
@@ -661,7 +661,7 @@ impl<K: Eq + Hash + Drop, V: Drop, S: BuildHasher, A: Allocator> Table<K, V, S, 
             Some(index) => {
                 let tags = index.tags.as_slice();
                 drop_between(tags, &mut self.places, 0, tags.len());
-                free_all(index);
+                index.clear();
             }
             None => {}
         }

@@ -5,7 +5,7 @@ ghost use Rattle.std.specs.Iterator.SizeHint.{IsWithinCount};
 ghost use Rattle.aa_table.specs.Slots.{tag_at};
 
 use super::Table;
-use crate::index::{hash_of, tags_in, take_out};
+use crate::index::{hash_of, tags_in};
 use crate::slots::is_free;
 use std::alloc::Allocator;
 use std::hash::{BuildHasher, Hash};
@@ -74,7 +74,7 @@ impl<K: Eq + Hash + Drop, V: Drop, S: BuildHasher, A: Allocator> Table<K, V, S, 
         *from = slot + 1;
         let hash = hash_of(&self.builder, &self.places.place(slot).0);
         let entry = match &mut self.index {
-            Some(index) => take_out(index, &mut self.places, hash, slot),
+            Some(index) => index.take_out(&mut self.places, hash, slot),
             None => unreachable!(),
         };
         self.count -= 1;

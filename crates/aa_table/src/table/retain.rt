@@ -6,7 +6,7 @@ ghost use Rattle.aa_table.specs.Retaining.{MayReturn, Retains, Visits};
 ghost use Rattle.aa_table.specs.Slots.{IsIndex, tag_at};
 
 use super::Table;
-use crate::index::{HashIndex, hash_of, take_out};
+use crate::index::{HashIndex, hash_of};
 use crate::keeper::{Keeper, OnEntry};
 use crate::slots::is_free;
 use allocator_api2::raw_vec::RawVec;
@@ -45,7 +45,7 @@ fn discard<K: Eq + Hash + Drop, V: Drop, S: BuildHasher, A: Allocator>(
         places.new.places) }
 {
     let hash = hash_of(builder, &places.place(slot).0);
-    drop(take_out(index, places, hash, slot));
+    drop(index.take_out(places, hash, slot));
 }
 
 // Calls `keeper` for the entry in a slot, if there is one, and removes and drops it if `keeper`

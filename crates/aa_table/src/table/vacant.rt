@@ -6,7 +6,7 @@ ghost use Rattle.aa_table.specs.Contents.{keys_like, value, HasRoom, capacity_fo
 ghost use Rattle.aa_table.specs.Places.{hashes};
 
 use super::{Table, TryInsertError};
-use crate::index::{find_in, hash_of, put_new};
+use crate::index::{find_in, hash_of};
 use allocator_api2::collections::Refused;
 use std::alloc::Allocator;
 use std::hash::{BuildHasher, Hash};
@@ -46,7 +46,7 @@ impl<K: Eq + Hash + Drop, V: Drop, S: BuildHasher, A: Allocator + Clone> Table<K
             });
         }
         let slot = match &mut self.index {
-            Some(index) => put_new(index, &mut self.places, hash, (key, item)),
+            Some(index) => index.put_new(&mut self.places, hash, (key, item)),
             None => unreachable!(),
         };
         self.count += 1;

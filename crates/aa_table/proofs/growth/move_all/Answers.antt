@@ -39,7 +39,7 @@ each-preserved g c = elim c.if-not-is_free.branch [
         moved-one (somes c.args.from.now.places) c.each.from.places c.each.to.places c.each.slot at entry value (omega (arith, put.within, places h c.each.to.places i.3)) (free h c.each.to.places i.3 at put.was_free) i.0,
         λ s l. elim (cases_eq s c.each.slot) [ inl e ↦ rw e (emptied-same c.each.from.places c.each.slot) | inr ne ↦ get_or-set_other c.each.from.places c.each.slot s None None ne ∙ i.1 s (omega (arith, l, ne)) ],
         λ s l. get_or-set_other c.each.from.places c.each.slot s None None (λ e. omega (arith, l, e)) ∙ i.2 s (omega (arith, l)),
-        subst (IsIndex w.put_new.new.index.tags.items w.put_new.new.index.overflows.items) (sym (hashes-set h c.each.to.places at (Some entry))) (rw w.hash_of-hash.ensures at (put.index (hashes_of h c.each.to.places) i.3)),
+        subst (IsIndex w.put_new.new.self.tags.items w.put_new.new.self.overflows.items) (sym (hashes-set h c.each.to.places at (Some entry))) (rw w.hash_of-hash.ensures at (put.index (hashes_of h c.each.to.places) i.3)),
         ap length put.tags ∙ length-set c.each.index.tags.items at _ ∙ i.4,
         length-set c.each.to.places at (Some entry) ∙ i.5,
       )

@@ -18,7 +18,7 @@ invariant_of-self g c =
     let hash = c.requires.hash ∙ ap (λ (f : TableView _ _ _). hashes g.S.BuildHasher g.S.Hasher.Hasher g.K.Hash.hash_input f.builder c.args.key) (sym c.self.view_is) in
     let new-key = ap (λ (f : TableView _ _ _). keys_like g.K.PartialEq.eq c.args.key f.entries) c.self.view_is ∙ c.requires.absent in
     let entry : g.row.K.Denot × g.row.V.Denot = (c.args.key, c.args.item) in
-    added c.self.invariant entry c.put_new.result (omega (arith, put.within, places h cs i)) (free h cs i c.put_new.result put.was_free) new-key c.in-Some.index c.put_new.new.index c.put_new.new.places put.put (ap length put.tags ∙ length-set c.in-Some.index.tags.items c.put_new.result _)
+    added c.self.invariant entry c.put_new.result (omega (arith, put.within, places h cs i)) (free h cs i c.put_new.result put.was_free) new-key c.in-Some.index c.put_new.new.self c.put_new.new.places put.put (ap length put.tags ∙ length-set c.in-Some.index.tags.items c.put_new.result _)
     (rw hash at (put.index (hashes_of h cs) i)) (rw c.in-Some.is at c.self.invariant.room) (rw c.in-Some.is at c.self.invariant.memory) (grind (arith, c.self.invariant.counted, c.requires.room, c.self.view_is))
 
 pub returns-clause-added : goal.returns-clause-added

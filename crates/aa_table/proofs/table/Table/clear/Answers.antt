@@ -14,7 +14,7 @@ invariant_of-self g c =
     let i = rw c.in-Some.is at t.indexed in let ts = c.in-Some.index.tags.items in let drop = c.drop_between.ensures in
     let empty = all-gone ts old c.drop_between.new.places.places (free h old i) (rw c.as_slice-tags.ensures at drop.dropped) drop.others in
     let many : length ts ≤ length c.drop_between.new.places.places = omega (arith, drop.len, places h old i) in
-    none-in g.K.PartialEq.eq h t.keys c.drop_between.new.places (Some c.free_all.new.index) c.self.inside.capacity empty (index-cleared ts old c.drop_between.new.places.places h c.in-Some.index.overflows.items i.slots many empty c.free_all.ensures.tags c.free_all.ensures.overflows) (rw (ap length c.free_all.ensures.tags ∙ length-replicate (length ts) 0) (rw c.in-Some.is at t.room)) (rw (ap length c.free_all.ensures.tags ∙ length-replicate (length ts) 0, drop.len) (rw c.in-Some.is at t.memory)) t.small
+    none-in g.K.PartialEq.eq h t.keys c.drop_between.new.places (Some c.clear.new.self) c.self.inside.capacity empty (index-cleared ts old c.drop_between.new.places.places h c.in-Some.index.overflows.items i.slots many empty c.clear.ensures.tags c.clear.ensures.overflows) (rw (ap length c.clear.ensures.tags ∙ length-replicate (length ts) 0) (rw c.in-Some.is at t.room)) (rw (ap length c.clear.ensures.tags ∙ length-replicate (length ts) 0, drop.len) (rw c.in-Some.is at t.memory)) t.small
 
 pub returns-in-Some : goal.returns-in-Some
 returns-in-Some g c =

@@ -32,7 +32,7 @@ invariant_of-self-lent g c = λ w.
     let hash = c.requires.hash ∙ ap by (sym c.reserve.ensures.builder ∙ sym (ap (λ (f : TableView _ _ _). f.builder) c.self.view_is)) in
     let new-key = ap (λ (f : TableView _ _ _). keys_like g.K.PartialEq.eq c.args.key f.entries) c.self.view_is
     ∙ keys-permuted g.K.PartialEq.eq c.args.self.now.entries c.reserve.new.self.entries c.reserve.ensures.same c.args.key ∙ c.requires.absent in
-    added t new slot l (free h cs i slot put.was_free) new-key c.in-Some.index c.put_new-slot.new.index _ written (ap length put.tags ∙ length-set c.in-Some.index.tags.items slot _)
+    added t new slot l (free h cs i slot put.was_free) new-key c.in-Some.index c.put_new-slot.new.self _ written (ap length put.tags ∙ length-set c.in-Some.index.tags.items slot _)
     (rw hash at (put.index (hashes_of h cs) i)) (rw c.in-Some.is at t.room) (rw c.in-Some.is at t.memory) (grind (arith, t.counted, c.in_default.ensures.enough, c.self.view_is))
 
 pub returns : goal.returns

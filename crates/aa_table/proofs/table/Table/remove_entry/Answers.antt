@@ -47,7 +47,7 @@ invariant_of-self g c =
     let i = rw c.in-Some-index.is at t.indexed in
     let there = passes t (g.Q.Lookup.matches c.args.key) (g.met.Q.Lookup.like_eq c.args.key) c.in-Some.slot entry out.value c.in-Some.ensures.found in
     let hash = c.hash_of-hash.ensures ∙ ap (hash_by g.S.BuildHasher g.S.Hasher.Hasher c.self.inside.builder) (g.met.Q.Lookup.like_hash c.args.key entry.0 there) in
-    removed t entry.0 c.in-Some.slot entry out.value here index c.take_out-entry.new.index c.take_out-entry.new.places (c.self.inside.count - 1) out.taken (ap length out.tags ∙ length-set index.tags.items c.in-Some.slot 0)
+    removed t entry.0 c.in-Some.slot entry out.value here index c.take_out-entry.new.self c.take_out-entry.new.places (c.self.inside.count - 1) out.taken (ap length out.tags ∙ length-set index.tags.items c.in-Some.slot 0)
     (out.index (hashes_of h cs) i (hash-here h cs i c.in-Some.slot entry out.value ∙ ap Some (sym hash))) (rw c.in-Some-index.is at t.room) (rw c.in-Some-index.is at t.memory) (omega (arith, t.counted, one-less t entry.0 c.in-Some.slot entry out.value here))
 
 pub returns-clause-old : goal.returns-clause-old

@@ -36,7 +36,7 @@ invariant_of-self g c =
     let h = hashes g.S.BuildHasher g.S.Hasher.Hasher g.K.Hash.hash_input c.self.inside.builder in let cs = c.self.inside.places.places in
     let here = t.keys.equality.refl entry.0 in
     let i = rw c.in-Some-index.is at t.indexed in
-    removed t entry.0 c.in-Some.slot entry out.value here index c.take_out-entry.new.index c.take_out-entry.new.places (c.self.inside.count - 1) out.taken (ap length out.tags ∙ length-set index.tags.items c.in-Some.slot 0)
+    removed t entry.0 c.in-Some.slot entry out.value here index c.take_out-entry.new.self c.take_out-entry.new.places (c.self.inside.count - 1) out.taken (ap length out.tags ∙ length-set index.tags.items c.in-Some.slot 0)
     (out.index (hashes_of h cs) i (hash-here h cs i c.in-Some.slot c.place.result.now c.place.ensures ∙ ap Some (sym c.hash_of-hash.ensures))) (rw c.in-Some-index.is at t.room) (rw c.in-Some-index.is at t.memory) (omega (arith, t.counted, one-less t entry.0 c.in-Some.slot entry out.value here))
 
 pub returns-clause-taken : goal.returns-clause-taken
