@@ -29,7 +29,7 @@ fn raise<A: Allocator>(map: &mut OrderedMap<u64, u64, A>, by: u64)
     }
 }
 
-// The key of an entry that is lent, if there is one.
+// The key of an entry whose value is borrowed by `&mut`, if there is one.
 fn key_of(entry: Option<(&u64, &mut u64)>) -> Option<u64> {
     match entry {
         Some((key, _)) => Some(*key),
