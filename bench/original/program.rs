@@ -179,7 +179,7 @@ macro_rules! original_over {
 
 #[cfg(original)]
 original_over!(original, crate::blocks::Blocks);
-#[cfg(original)]
+#[cfg(resizing)]
 original_over!(resizing, allocator_api2::alloc::Global);
 
 /// Over Rust's own vector, whose allocator resizes blocks.
@@ -245,11 +245,16 @@ fn answer(line: &str) -> Option<String> {
         _ => return None,
     };
     let (number, repeat): (u32, u32) = (count.parse().ok()?, repeat.parse().ok()?);
+    let mut all = [Measure::default(), Measure::default(), Measure::default()];
     #[cfg(original)]
-    let (original, resizing) = (measured!(original, case, number, repeat), measured!(resizing, case, number, repeat));
-    #[cfg(not(original))]
-    let (original, resizing) = (Measure::default(), Measure::default());
-    let all = [original, resizing, measured!(standard, case, number, repeat)];
+    {
+        all[0] = measured!(original, case, number, repeat);
+    }
+    #[cfg(resizing)]
+    {
+        all[1] = measured!(resizing, case, number, repeat);
+    }
+    all[2] = measured!(standard, case, number, repeat);
     let time = |measure: &Measure| match measure.time {
         Some(time) => format!("{:.3}", time.as_nanos() as f64 / f64::from(number)),
         None => "-".to_string(),

@@ -123,6 +123,13 @@ def as_original():
     return ("cases", sum("!" not in cells[0] for cells in there)), ("cases", len(there))
 
 
+def beside_std(begins, but=None):
+    """The least and the greatest ratio to std's time, of cases whose names begin so, at any size."""
+    rows = re.findall(rf"(?m)^\| `({begins}\w*)` \| ((?:[\d.]+ \| ){{3}}[\d.]+) \|$", text_of(TOP / "bench" / "README.md"))
+    found = [float(it) for case, cells in rows if case != but for it in cells.split(" | ")]
+    return [(f"times std's, for `{begins}`", f"{it:.2f}") for it in (min(found), max(found))]
+
+
 def wrong_allocators():
     """The wrong allocators, those whose fault is named, the steps, and those at which the run stops."""
     text = text_of(TOP / "tests" / "wrong-allocators" / "lib.rt.txt")
@@ -176,27 +183,28 @@ def of_types():
 
 def of_bench():
     """The same of the bench's tables."""
-    of_table = [takes(f"table_{it}", side) for it in ("insert", "hit", "miss", "remove") for side in ("std", "toolchain")]
     yield "README.md", "the original's instructions in {} of {} cases", as_original()
     yield "README.md", "by more than a tenth in {} of {} cases, and slower in {}.", [ahead("toolchain"), ("cases", len(cases())), slower("toolchain")]
     yield "README.md", "Rust's std is ahead in {}, and slower in {}.", [ahead("std"), slower("std")]
     yield "bench/README.md", "{} cases are measured over this library", [("cases", len(cases()))]
-    listed = re.findall(r"(?m)^(\w+):? ", text_of(TOP / "bench" / "cases"))
-    yield "bench/README.md", "`bench/cases` has {} cases that came after", [("cases", len(set(listed) - set(cases())))]
     yield "bench/README.md", "Of the {} cases that also run over the original, ours takes at most 1.05 times its instructions in {}.", list(as_original())[::-1]
     yield "bench/README.md", "than 1.1 times its time in {}.", [ahead("original")]
     yield "bench/README.md", "std is ahead by more than a tenth in {} of the {} cases, and slower in {}.", [ahead("std"), ("cases", len(cases())), slower("std")]
     yield "bench/README.md", "The toolchain is ahead in {}, and slower in {}.", [ahead("toolchain"), slower("toolchain")]
     yield "bench/README.md", "{} take more than 1.2 times the time", [beyond()]
     yield "bench/README.md", "`window`, beside std, by {}:", [takes("window", "std")]
-    yield "bench/README.md", "`lines`, beside the original, by {} of its instructions", [takes("lines", "original", "instructions")]
+    yield "bench/README.md", "By instructions `lines` takes {} times the original's", [takes("lines", "original", "instructions")]
+    yield "bench/README.md", "Its time is {} of the original's, and {} of std's.", [takes("rows", it) for it in ("original", "std")]
+    yield "bench/README.md", "a table takes {} to {} times as long, but up to {} times in", [*beside_std("table", but="table_reserved"), beside_std("table_reserved")[1]]
+    yield "bench/README.md", "An ordered map takes {} to {} times as long", beside_std("map")
     yield "bench/README.md", "`gap_typing` at 100,000 takes {} of the time", [takes("gap_typing", "original")]
     yield "bench/README.md", "over the original, and {} over std", [takes("gap_typing", "std")]
     yield "bench/README.md", "std takes {} of `pieces_of_4`", [taken("pieces_of_4", "std", "instructions")]
     yield "bench/README.md", "by time it takes {}, since", [taken("pieces_of_4", "std")]
-    yield "docs/EXAMPLES.md", "; {} times as long in `table_hit`", [takes("table_hit", "toolchain")]
-    yield "docs/EXAMPLES.md", "{} times as long as Rust's.", [takes("table_hit", "std")]
-    yield "bench/README.md", "| 100,000 | {}, {} | {}, {} | {}, {} | {}, {} |", of_table
+    yield "docs/EXAMPLES.md", "{} times as long in `table_hit`, and {} in `table_reserved`", [takes(f"table_{it}", "std") for it in ("hit", "reserved")]
+    yield "docs/EXAMPLES.md", "{} times as long in `ring_queue`, and {} in `ring_push`", [takes(f"ring_{it}", "toolchain") for it in ("queue", "push")]
+    yield "docs/EXAMPLES.md", "{} times as long in `map_insert`, {} in `map_get`", [takes(f"map_{it}", "std") for it in ("insert", "get")]
+    yield "docs/EXAMPLES.md", "`inline_few` takes {} times as long", [takes("inline_few", "toolchain")]
 
 
 def value(said):
