@@ -16,16 +16,30 @@ finds lemmas by name. Both need the lemma's crate in your line of `crates.txt`.
 """
 
 
+def whole(lines):
+    """The lines, with the head of a module, a ruleset or a statement that goes on over several of them on one."""
+    rows, is_open, declared = [], False, 0
+    for line in lines:
+        depth = len(line) - len(line.lstrip())
+        if is_open and line.strip() and (depth > declared or line.strip() == ")"):
+            rows[-1] += " " + line.strip()
+        else:
+            declared, is_open = depth, bool(re.match(r"\s*(module _|(pub )?ruleset|(pub )?\S+ :) ", line))
+            rows.append(line)
+        is_open = is_open and not rows[-1].endswith(" where")
+    return rows
+
+
 class Proofs:
     """A file of proofs: its rulesets, its lemmas with their statements, and the names that it imports."""
 
     def __init__(self, crate, path):
         self.name = f"Rattle.{crate}.proofs.{path}"
         file = TOP / "crates" / crate / "proofs" / (path.replace(".", "/") + ".antt")
-        self.lines = file.read_text(encoding="utf-8").split("\n")
+        self.lines = whole(file.read_text(encoding="utf-8").split("\n"))
         self.taken = dict(self.names(self.lines))
         self.re_exported = dict(self.names(it for it in self.lines if it.startswith("pub ")))
-        self.rulesets = {name: re.split(r",\s*", text) for name, text in re.findall(r"^ *pub ruleset (\w+) = \((.*)\)$", "\n".join(self.lines), re.M)}
+        self.rulesets = {name: re.findall(r"[^,\s]+", text) for name, text in re.findall(r"^ *pub ruleset (\w+) = \((.*)\)$", "\n".join(self.lines), re.M)}
 
     def names(self, lines):
         """Each name that the lines import, with the file of proofs that it comes from and its name there."""
@@ -38,7 +52,7 @@ class Proofs:
     def statement(self, name):
         """The lemma's statement, with the variables of the modules that it is in; none if it is in another file."""
         around = []
-        for at, line in enumerate(self.lines):
+        for line in self.lines:
             depth = len(line) - len(line.lstrip())
             if line.strip():
                 around = [it for it in around if it[0] < depth]
@@ -46,12 +60,8 @@ class Proofs:
                 around.append((depth, line.strip()[len("module _ ") : -len(" where")]))
             found = re.match(r"\s*(?:pub )?" + re.escape(name) + r" : (.*)$", line)
             if found:
-                said = found.group(1)
-                for more in self.lines[at + 1 :]:
-                    if not re.match(r"\s*→", more):
-                        break
-                    said += " " + more.strip()
                 bound = re.sub(r"\{\w+( \w+)* : Type 0\}", "", " ".join(it[1] for it in around)).strip()
+                said = found.group(1)
                 return f"{bound} {said}" if bound and said.startswith("(") else f"{bound} → {said}" if bound else said
         return None
 

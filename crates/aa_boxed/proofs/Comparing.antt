@@ -6,7 +6,8 @@ use Rattle.std.specs.Ordering.{partial_ordering_then}
 use Rattle.std.specs.declared.cmp.Ordering.{Ordering}
 use mathlib.Core.Bool.{true≢false}
 
-module _ {T : Type 0} {E : T → T → Bool} {C : T → T → Option Ordering} (o : IsPartialOrder E C) where
+module _ {T : Type 0} {E : T → T → Bool} {C : T → T → Option Ordering}
+    (o : IsPartialOrder E C) where
   pub past-equal : (xs ys zs ws : List T) → pointwise E xs ys ≡ true
       → slice_partial_cmp C (xs ++ zs) (ys ++ ws) ≡ slice_partial_cmp C zs ws
   past-equal [] [] zs ws e = refl

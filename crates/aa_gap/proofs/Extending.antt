@@ -8,26 +8,36 @@ use Rattle.std.proofs.iter.runs.Consumers.{total_runs}
 
 -- the items that came, as one run
 module _ {S T E : Type 0} (steps : S → Option T → S → Type 0) (Gives : S → Type 0) where
-  pub whole_run : (r : Result (Unit {0}) E) (s : S) (old mid new : List T) (R : Type 0) (Q : List T → Type 0) → Gives s → mid ≡ old
+  pub whole_run : (r : Result (Unit {0}) E) (s : S) (old mid new : List T) (R : Type 0)
+      (Q : List T → Type 0) → Gives s → mid ≡ old
       → OnOk r ((xs : List T) × Drains steps s xs × (new ≡ mid ++ xs) × R × Q xs)
       → OnOk r ((t : S) × Gives t × WholeRun steps t (λ p. new ≡ old ++ p.items))
-  whole_run (Ok u) s old mid new R Q given same d =
-      (s, given, total_runs steps s (Unit {0}) (λ xs. new ≡ old ++ xs) (d.0, λ _. d.1, d.2 ∙ ap (λ ys. ys ++ d.0) same) tt)
+  whole_run (Ok u) s old mid new R Q given same d = (
+    s,
+    given,
+    total_runs steps s (Unit {0}) (λ xs. new ≡ old ++ xs)
+        (d.0, λ _. d.1, d.2 ∙ ap (λ ys. ys ++ d.0) same) tt,
+  )
   whole_run (Err e) s old mid new R Q given same d = tt
 
 module _ {T A : Type 0} (size : ℕ) where
   -- one more of them
-  pub inserted-more : (old b new : Buffer T A) (xs : List T) (x : T) → Made size old (map Insert xs) b
+  pub inserted-more : (old b new : Buffer T A) (xs : List T) (x : T)
+      → Made size old (map Insert xs) b
       → new ≡ put (with_room size b 1) x → Made size old (map Insert (xs ++ x ∷ [])) new
-  inserted-more old b new xs x made is = rw map-append (Made-more size old b new (map Insert xs) (Insert x) made is)
+  inserted-more old b new xs x made is =
+      rw map-append (Made-more size old b new (map Insert xs) (Insert x) made is)
 
   -- they are before the cursor, in order, and what is after it is unchanged
-  all_inserted : (b : Buffer T A) (xs : List T) → HasInserted b xs (fold (with_edit size) b (map Insert xs))
+  all_inserted : (b : Buffer T A) (xs : List T)
+      → HasInserted b xs (fold (with_edit size) b (map Insert xs))
   all_inserted b [] = (sym (append-nil b.before), refl)
   all_inserted b (x ∷ xs) =
-      let rest = all_inserted (with_edit size b (Insert x)) xs in (rest.0 ∙ append_assoc b.before (x ∷ []) xs, rest.1)
+      let rest = all_inserted (with_edit size b (Insert x)) xs in
+      (rest.0 ∙ append_assoc b.before (x ∷ []) xs, rest.1)
 
-  pub HasInserted-made : (old new : Buffer T A) (xs : List T) → Inserts size old xs new → HasInserted old xs new
+  pub HasInserted-made : (old new : Buffer T A) (xs : List T) → Inserts size old xs new
+      → HasInserted old xs new
   HasInserted-made old new xs done = rw done.exact (all_inserted old xs)
 
 pub ruleset inserts_items = (Made-none)
@@ -49,7 +59,8 @@ module _ {X : Type 0} (P : X → Type 0) (xs ys : List X) (all : All P (xs ++ ys
 
 pub ruleset copied = (All-before, All-after, length-append, same_from_all_zip)
 
--- What `clone` makes: a text of clones, one after another, whose cursor is then moved to where it is in the source.
+-- What `clone` makes: a text of clones, one after another, whose cursor is then moved to where it
+-- is in the source.
 module _ {T A : Type 0} (clones : T → T → Type 0) (size : ℕ) (b none mid all : Buffer T A)
     (first : InsertsClones clones none b.before mid)
     (second : InsertsClones clones mid b.after all) (a : A)
@@ -68,12 +79,15 @@ module _ {T A : Type 0} (clones : T → T → Type 0) (size : ℕ) (b none mid a
   long = length_all_zip clones b.before first.added first.each
 
   pub parts-made : (copy.before ≡ first.added) × (copy.after ≡ second.added)
-  parts-made = rw (cloned, append-nil, long) (take-append_seam first.added second.added, drop-append_seam first.added second.added)
+  parts-made = rw (cloned, append-nil, long)
+      (take-append_seam first.added second.added, drop-append_seam first.added second.added)
 
   pub IsCopy-made : IsCopy clones size b copy
   IsCopy-made =
-      let p = parts-made in let before = rw (← p.0) at first.each in let after = rw (← p.1) at second.each in
-      let all = length-append first.added second.added in let others = length_all_zip clones b.after second.added second.each in
+      let p = parts-made in let before = rw (← p.0) at first.each in
+      let after = rw (← p.1) at second.each in
+      let all = length-append first.added second.added in
+      let others = length_all_zip clones b.after second.added second.each in
       grind (arith, nat_tests, cloned, long, all, others, p.0, p.1, before, after)
 
 -- items that were inserted before an error

@@ -4,7 +4,18 @@ pub use Rattle.aa_raw.specs.Clones.{HoldsClones}
 pub use Rattle.aa_raw.specs.Growth.{amortized, new_capacity, usize_max}
 pub use Rattle.aa_raw.specs.Ownership.{each, fits_isize, capacity_bounds, row_shares, row_owns, place_owns, place_shares, token_for}
 pub use Rattle.aa_raw.specs.RowLends.{holding}
-unfoldable pub use Rattle.aa_raw.specs.Places.{AreEmpty, IsCapacity, IsFilled, IsRun, empty_places, moved, run, somes, with_run, zst_places}
+unfoldable pub use Rattle.aa_raw.specs.Places.{
+  AreEmpty,
+  IsCapacity,
+  IsFilled,
+  IsRun,
+  empty_places,
+  moved,
+  run,
+  somes,
+  with_run,
+  zst_places,
+}
 pub use Rattle.aa_raw.specs.TwoRuns.{AreApart, AreJoined, AreParted, IsFull, ReservesRuns, both, grown_with}
 pub use Rattle.aa_raw.specs.contracts.counter.Counter.{the_row as tally_row}
 pub use Rattle.core.proofs.alloc.Calls.{Al, Answer, Answer-typed, Answered, Gives, Gives-Gives, Gives-goes, Goes-blank, Takes, Takes-gives, Takes-goes, answers, at_gives, at_takes, token}

@@ -27,6 +27,8 @@ AllocationFails-number size n e fails = rw fails.2 (error_for-number size n)
 -- a growth that failed has the number of places that it requested
 pub LacksRoom-number : (size capacity n k requested : ℕ) (e : TryReserveError)
     → LacksRoom size capacity n k requested e → IsErrorFor e requested
-LacksRoom-number size capacity n k requested e lacks = rw lacks.exact (error_for-number size requested)
+LacksRoom-number size capacity n k requested e lacks =
+    rw lacks.exact (error_for-number size requested)
 
-pub ruleset numbers = (error_for-bytes, error_for-beyond, error_for-number, AllocationFails-number, LacksRoom-number)
+pub ruleset numbers =
+    (error_for-bytes, error_for-beyond, error_for-number, AllocationFails-number, LacksRoom-number)

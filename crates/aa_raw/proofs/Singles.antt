@@ -20,17 +20,28 @@ no_others X n = ap (list_all is_none) (drop-replicate 1 n None) ∙ none_there X
 
 module _ {X : Type 0} where
   -- places of which only the first may be filled are empty ones, but for it
-  first_alone : (cs ds : List (Option X)) → length ds ≡ length cs → 0 < length cs → list_all is_none (drop 1 cs) ≡ true
+  first_alone : (cs ds : List (Option X)) → length ds ≡ length cs → 0 < length cs
+      → list_all is_none (drop 1 cs) ≡ true
       → list_all is_none ds ≡ true → cs ≡ slice_set ds 0 (get_or cs 0 None)
   first_alone cs ds same some rest none =
-      let after : (i : ℕ) → get_or cs (1 + i) None ≡ None = λ i. sym (get_or-drop 1 cs i None) ∙ none-at (drop 1 cs) i rest in
-      ext_get_or None _ _ (omega (arith, same, length-set ds 0 (get_or cs 0 None))) (λ i h. grind (arith, cases_eq i 0, after (i - 1), get_or-set_same, get_or-set_other, none-at ds i none))
+      let after : (i : ℕ) → get_or cs (1 + i) None ≡ None = λ i. sym (get_or-drop 1 cs i None)
+      ∙ none-at (drop 1 cs) i rest in
+      ext_get_or None _ _ (omega (arith, same, length-set ds 0 (get_or cs 0 None)))
+      (λ i h. grind (
+        arith,
+        cases_eq i 0,
+        after (i - 1),
+        get_or-set_same,
+        get_or-set_other,
+        none-at ds i none,
+      ))
 
   pub alone : (size : ℕ) (cs : List (Option X)) → length cs ≡ new_capacity size 1
       → list_all is_none (drop 1 cs) ≡ true
       → cs ≡ slice_set (empty_places size 1) 0 (get_or cs 0 None)
   alone size cs long e =
-      first_alone cs (empty_places size 1) (length-empty_places X size 1 ∙ sym long) (grind (arith, nat_tests, long)) e (none-fresh X size 1)
+      first_alone cs (empty_places size 1) (length-empty_places X size 1 ∙ sym long)
+      (grind (arith, nat_tests, long)) e (none-fresh X size 1)
 
 -- a raw box that holds x, as a block: its first place does
 module _ {X A : Type 0} (size : ℕ) (s : Single X A) (x : X) (held : s.place ≡ Some x) where
@@ -38,9 +49,12 @@ module _ {X A : Type 0} (size : ℕ) (s : Single X A) (x : X) (held : s.place �
   start = empty_places size 1
 
   pub run-as_block : run (as_block size s).places 0 1 ≡ x ∷ []
-  run-as_block = grind (arith, nat_tests, held, run-set-same start 0 x, length-empty_places X size 1)
+  run-as_block = grind
+      (arith, nat_tests, held, run-set-same start 0 x, length-empty_places X size 1)
 
   pub IsRun-as_block : IsRun (as_block size s).places 0 1
-  IsRun-as_block = rw held (IsRun-put start 0 x (grind (arith, nat_tests, length-empty_places X size 1)) (IsRun-nil start 0 (omega arith)))
+  IsRun-as_block =
+      rw held (IsRun-put start 0 x (grind (arith, nat_tests, length-empty_places X size 1))
+      (IsRun-nil start 0 (omega arith)))
 
 pub ruleset of_one = (nat_tests, lengths, one_or_zst, no_others, alone)

@@ -6,7 +6,8 @@ pub on_ok : {X E P Q : Type 0} → (r : Result X E) → OnOk r P → (P → Q) �
 on_ok (Ok x) p f = f p
 on_ok (Err e) p f = tt
 
-pub if_err : {X E : Type 0} {P Q : E → Type 0} → (r : Result X E) → IfErr r P → ((e : E) → P e → Q e) → IfErr r Q
+pub if_err : {X E : Type 0} {P Q : E → Type 0} → (r : Result X E) → IfErr r P
+    → ((e : E) → P e → Q e) → IfErr r Q
 if_err (Ok x) p f = tt
 if_err (Err e) p f = f e p
 

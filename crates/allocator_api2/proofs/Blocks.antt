@@ -1,4 +1,5 @@
--- The rulesets that an author of a collection on a block names, as `#[tactic(auto, using(allocator_api2::proofs::Blocks::at_ends))]`:
+-- The rulesets that an author of a collection on a block names, as
+-- `#[tactic(auto, using(allocator_api2::proofs::Blocks::at_ends))]`:
 --     at_ends     put, take, place, place_mut at the first places or the last
 --     at_positions     the same at any place, and runs that move by one
 --     at_both_ends     put and take at both ends of a run that begins anywhere, described by its first place and how many values it has
@@ -12,7 +13,8 @@
 --     emptied     that no place holds a value when the block is dropped, after drop_run, take_array, transfer, forget_run, forget_from
 --     at_sides, around_run, grown_at_end     that the places before a run, or after it, hold none
 --     numbers     the kind and the number of the error of a failed allocation
--- With many lemmas the search proves less: name no more of them than a function needs. Proofs by hand cite the single lemmas.
+-- With many lemmas the search proves less: name no more of them than a function needs. Proofs by
+-- hand cite the single lemmas.
 pub use Rattle.aa_raw.proofs.Calls.{at_ends, with_room, shown}
 pub use Rattle.allocator_api2.proofs.BlocksMoved.{at_positions, in_runs}
 pub use Rattle.aa_raw.proofs.Beyond.{at_sides, around_run, emptied, grown_at_end, none_there, none-at, none-each, none-still, none-within}

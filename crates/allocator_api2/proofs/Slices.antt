@@ -26,7 +26,14 @@ position_cases p (y ∷ ys) = (
   let xs = y ∷ ys in let i = position_or_len p xs in elim (cases_lt i (length xs)) [
     | inl l ↦
         let x = get_or xs i y in
-        inl (i, l, grind (arith, common_steps), (x, get_or_default xs i x y l, passes_at_first p xs y l), λ k d lt. fails_before_first p xs k d lt)
+        inl (
+          i,
+          l,
+          grind (arith, common_steps),
+          (x, get_or_default xs i x y l, passes_at_first p xs y l),
+          λ k d lt.
+              fails_before_first p xs k d lt,
+        )
     | inr l ↦ inr (grind (arith, common_steps), λ k d lt. fails_before_first p xs k d (omega arith))
   ],
 )
@@ -46,7 +53,11 @@ pub map_in_place : {X : Type 0} (f : X → X) (xs : List X) (i : ℕ)
     × ((d : X) → i < length xs → get_or (map f (take i xs) ++ drop i xs) i d ≡ get_or xs i d)
     × ((d : X) → i < length xs → slice_set (map f (take i xs) ++ drop i xs) i (f (get_or xs i d))
     ≡ map f (take (i + 1) xs) ++ drop (i + 1) xs)
-map_in_place f xs i = (refl, λ d l. grind (arith, common_steps), λ d l. grind (arith, common_steps, map_over_more, get_or_default))
+map_in_place f xs i = (
+  refl,
+  λ d l. grind (arith, common_steps),
+  λ d l. grind (arith, common_steps, map_over_more, get_or_default),
+)
 
 -- a number that is inserted before an equal one leaves them sorted
 pub found_in_order : (xs : List ℕ) (x at : ℕ) → IsNonDecreasing xs → at < length xs

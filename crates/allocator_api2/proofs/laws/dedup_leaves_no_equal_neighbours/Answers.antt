@@ -5,7 +5,9 @@ use Rattle.allocator_api2.proofs.laws.dedup_leaves_no_equal_neighbours.Goals as 
 
 pub returns-clause-dedup : goal.returns-clause-dedup
 returns-clause-dedup g c xs left results d =
-    leaves_no_repeats g.T.PartialEq.eq g.met.T.PartialEq.laws.symm (Equals g.T.PartialEq.eq) (λ s t x l y k answer e. e) _ _ xs left results d
+    leaves_no_repeats g.T.PartialEq.eq g.met.T.PartialEq.laws.symm (Equals g.T.PartialEq.eq)
+    (λ s t x l y k answer e. e) _ _ xs left results d
 
 pub returns-clause-dedup_by : goal.returns-clause-dedup_by
-returns-clause-dedup_by g c = leaves_no_repeats g.T.PartialEq.eq g.met.T.PartialEq.laws.symm (CalledAtPairMut g.S.FnMut)
+returns-clause-dedup_by g c = leaves_no_repeats g.T.PartialEq.eq g.met.T.PartialEq.laws.symm
+    (CalledAtPairMut g.S.FnMut)

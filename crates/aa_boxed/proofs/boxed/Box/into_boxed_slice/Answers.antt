@@ -16,5 +16,6 @@ returns g c =
     let v = c.b.inside in let x = value_of v.block.place v.filled in
     let size = type_size (param 0 g.row.T) in
     let items = run-as_block size v.block x (held-is v.block.place v.filled) in
-    c.from_block.ensures ∙ ap (λ b. slice_of b 1) c.into_raw_vec.ensures ∙ ap (λ xs. with_items (new_slice size (x ∷ []) v.block.alloc) xs) items
+    c.from_block.ensures ∙ ap (λ b. slice_of b 1) c.into_raw_vec.ensures
+    ∙ ap (λ xs. with_items (new_slice size (x ∷ []) v.block.alloc) xs) items
     ∙ ap (λ b. new_slice size (b.value ∷ []) b.alloc) c.b.view_is

@@ -8,7 +8,8 @@ loop-next-preserved g c =
     record {
       can = on.0;
       finite = on.1;
-      joining = Joining-next _ _ _ _ _ i.joining c.in-Some.next _ c.in-Some.ensures.steps _ _ c.as_str.ensures put.appended put.capacity;
+      joining = Joining-next _ _ _ _ _ i.joining c.in-Some.next _ c.in-Some.ensures.steps _ _
+          c.as_str.ensures put.appended put.capacity;
       never_shrinks = omega (arith, i.never_shrinks, put.never_shrinks);
       nearer = omega (arith, i.nearer, on.2);
     }
@@ -16,5 +17,7 @@ loop-next-preserved g c =
 pub returns-in-Err-clause-failed : goal.returns-in-Err-clause-failed
 returns-in-Err-clause-failed g c =
     let e = c.in-Err.ensures in
-    Joining-fails _ _ _ _ _ c.loop-next.invariant.joining c.in-Some.next _ c.in-Some.ensures.steps _ e.unchanged e.same_capacity c.in-Err.error
-    (subst (λ bs. StringReserveFails c.append_text.new.text (length bs) c.in-Err.error) c.as_str.ensures e.error)
+    Joining-fails _ _ _ _ _ c.loop-next.invariant.joining c.in-Some.next _ c.in-Some.ensures.steps _
+    e.unchanged e.same_capacity c.in-Err.error
+    (subst (λ bs. StringReserveFails c.append_text.new.text (length bs) c.in-Err.error)
+    c.as_str.ensures e.error)

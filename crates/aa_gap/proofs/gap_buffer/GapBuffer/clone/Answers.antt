@@ -20,7 +20,8 @@ made-empty g c =
 
 pub with_block-copy-requires : goal.with_block-copy-requires
 with_block-copy-requires g c =
-    let T = param 0 g.row.T in rw c.in_ok-block.ensures.made (none-fresh T.Denot (type_size T) c.len-capacity.result)
+    let T = param 0 g.row.T in
+    rw c.in_ok-block.ensures.made (none-fresh T.Denot (type_size T) c.len-capacity.result)
 
 pub returns-clause-made : goal.returns-clause-made
 returns-clause-made g c =

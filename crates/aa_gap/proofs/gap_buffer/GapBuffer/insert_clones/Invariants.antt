@@ -9,4 +9,6 @@ abbrev pub invariant-each : goal.invariant-each
 invariant-each g l =
     let old = l.fn.self in
     (added : List _) × AllZip g.T.Clone.is_clone (take l.i l.source) added
-    × (l.self ≡ record (with_parts old (old.before ++ added) old.after) { written = old.written + l.i; runs = old.runs + l.i }) × HasRoom l.self (length l.source - l.i)
+    × (l.self ≡ record (with_parts old (old.before ++ added) old.after)
+    { written = old.written + l.i; runs = old.runs + l.i })
+    × HasRoom l.self (length l.source - l.i)

@@ -8,4 +8,5 @@ use Rattle.aa_gap.proofs.gap_buffer.GapBuffer.insert_items.Given as goal
 abbrev pub invariant-each : goal.invariant-each
 invariant-each g l =
     let left = g.I.Iterator.remaining in
-    Made (type_size g.row.T) l.fn.self (map Insert l.yielded) l.self × (HasRoom l.fn.self (size (left l.fn.iter)) → HasRoom l.self (size (left l.item-iterator)))
+    Made (type_size g.row.T) l.fn.self (map Insert l.yielded) l.self
+    × (HasRoom l.fn.self (size (left l.fn.iter)) → HasRoom l.self (size (left l.item-iterator)))

@@ -3,7 +3,8 @@ use Rattle.aa_raw.proofs.raw_vec.RawVec.pair_with.Goals as goal
 
 pub returns : goal.returns
 returns g c =
-    let A = c.call_at_one_lifetime-returned in let filled = c.requires.filled in let seen = c.self.view_is in record {
+    let A = c.call_at_one_lifetime-returned in let filled = c.requires.filled in
+    let seen = c.self.view_is in record {
       first = c.read-x.result;
       second = c.read-y.result;
       first_left = A.new.x;

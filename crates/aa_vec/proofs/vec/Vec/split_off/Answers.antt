@@ -6,5 +6,11 @@ use Rattle.aa_vec.proofs.vec.Vec.split_off.Goals as goal
 pub invariant_of-self : goal.invariant_of-self
 invariant_of-self g c = record {
   filled = search (rules, with_room);
-  few = rw (c.replace.ensures.after, c.in_ok-block.ensures.made) (few-none _ 0 _ _ (search (rules, none-fresh)) (omega (arith, ap (λ n. n.count) c.replace-then-at-eq0-2.ensures.after, c.zero-then-at-eq0.ensures)));
+  few = rw (c.replace.ensures.after, c.in_ok-block.ensures.made)
+      (few-none _ 0 _ _ (search (rules, none-fresh))
+      (omega (
+        arith,
+        ap (λ n. n.count) c.replace-then-at-eq0-2.ensures.after,
+        c.zero-then-at-eq0.ensures,
+      )));
 }

@@ -1,4 +1,7 @@
 use Rattle.aa_vec.proofs.vec.traits.VecExtendRef.TheImpl.Goals as goal
 
 pub extend-asks : goal.extend-asks
-extend-asks g c = record { finite = λ it becomes. let asked = c.requires it becomes in (asked.0, asked.1) }
+extend-asks g c = record {
+  finite = λ it becomes. let asked = c.requires it becomes in
+      (asked.0, asked.1);
+}
