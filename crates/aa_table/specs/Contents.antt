@@ -31,8 +31,8 @@ fresh_resizes n = if n == 0 then 0 else 1
 abbrev pub least_growth : (c : ℕ) → ℕ
 least_growth c = max 14 (2 * c)
 
--- a table with the capacity `c` and `r` resizes has the capacity `d` and `s` resizes, once it has
--- `n` keys, each of which was inserted when the last one was
+-- a table with the capacity `c` and `r` resizes has the capacity `d` and `s` resizes once keys were
+-- inserted in turn and it has `n`
 pub record GrowsInTurn (c r d s n : ℕ) : Type 0 where
   -- its capacity is no less, and the same if that is sufficient
   pub capacity : c ≤ d

@@ -11,7 +11,7 @@ use std::alloc::Allocator;
 use std::hash::{BuildHasher, Hash};
 
 // Returns `true` if `key` has a value in the table, and it is equal to `item`.
-fn has<K: Eq + Hash + Drop, V: PartialEq + Drop, S: BuildHasher, A: Allocator + Clone>(
+fn has<K: Eq + Hash, V: PartialEq, S: BuildHasher, A: Allocator>(
     table: &Table<K, V, S, A>,
     key: &K,
     item: &V,
@@ -25,7 +25,7 @@ fn has<K: Eq + Hash + Drop, V: PartialEq + Drop, S: BuildHasher, A: Allocator + 
 }
 
 // Returns `true` if each key of `left` has an equal value in `right`.
-fn has_all<K: Eq + Hash + Drop, V: PartialEq + Drop, S: BuildHasher, A: Allocator + Clone>(
+fn has_all<K: Eq + Hash, V: PartialEq, S: BuildHasher, A: Allocator>(
     left: &Table<K, V, S, A>,
     right: &Table<K, V, S, A>,
 ) -> bool
@@ -40,8 +40,7 @@ fn has_all<K: Eq + Hash + Drop, V: PartialEq + Drop, S: BuildHasher, A: Allocato
     true
 }
 
-impl<K: Eq + Hash + Drop, V: PartialEq + Drop, S: BuildHasher, A: Allocator + Clone> PartialEq
-    for Table<K, V, S, A> {
+impl<K: Eq + Hash, V: PartialEq, S: BuildHasher, A: Allocator> PartialEq for Table<K, V, S, A> {
     ghost eq = { λ left right. same_entries K.eq V.eq left.entries right.entries };
 
     ghost laws = { on_per (λ t. t.entries) (same-per K.eq V.eq K.Eq.laws V.laws) };
@@ -53,7 +52,6 @@ impl<K: Eq + Hash + Drop, V: PartialEq + Drop, S: BuildHasher, A: Allocator + Cl
     }
 }
 
-impl<K: Eq + Hash + Drop, V: Eq + Drop, S: BuildHasher, A: Allocator + Clone> Eq
-    for Table<K, V, S, A> {
+impl<K: Eq + Hash, V: Eq, S: BuildHasher, A: Allocator> Eq for Table<K, V, S, A> {
     ghost laws = { on_equiv (λ t. t.entries) (same-equiv K.eq V.eq K.Eq.laws V.Eq.laws) };
 }

@@ -1,6 +1,7 @@
 //! Growing and shrinking the blocks of a table.
 ghost use Rattle.std.specs.Prelude.{◌≡◌, ◌≢◌, ℕ, ◌*◌, ◌/◌, ◌+◌, ◌^◌, ◌<◌, ◌≤◌, [], ◌++◌, None, length, get_or, map, replicate, IsPermutation, IfOk, IfErr, OnOk, OnErr, ◌⊎◌, ◌-◌};
 ghost use Rattle.std.specs.Int.{div_ceil, IsNextPowerOfTwo};
+ghost use Rattle.allocator_api2.specs.Clones.{ClonesAreEqual};
 ghost use Rattle.allocator_api2.specs.Errors.{IsErrorFor};
 ghost use Rattle.allocator_api2.specs.Places.{somes};
 ghost use Rattle.allocator_api2.specs.declared.collections.TryReserveErrorKind.TheVariants.{AllocError};
@@ -66,41 +67,23 @@ fn slots_for(capacity: usize) -> usize
     groups_for(capacity) * GROUP_SIZE
 }
 
-// Returns the tags of `count` free slots, allocated by a clone of `alloc`.
+// Returns a vector of `count` copies of `item`, allocated by a clone of `alloc`.
 //
 // An error has the number `capacity`.
-fn free_tags<A: Allocator + Clone>(
+fn copies_of<T: Clone, A: Allocator + Clone>(
+    item: T,
     count: usize,
     alloc: &A,
     capacity: usize,
-) -> Result<Vec<u8, A>, TryReserveError>
-    ensures made { IfOk result (λ v. v.items ≡ replicate count 0) }
+) -> Result<Vec<T, A>, TryReserveError>
+    requires { ClonesAreEqual T.is_clone }
+    ensures made { IfOk result (λ v. v.items ≡ replicate count item) }
     ensures error { IfErr result (λ e. e.kind ≡ AllocError capacity) }
 {
     let Ok(own) = alloc.clone() else {
         return Err(alloc_error(capacity));
     };
-    match Vec::from_elem_in(0, count, own) {
-        Ok(made) => Ok(made),
-        Err(_) => Err(alloc_error(capacity)),
-    }
-}
-
-// Returns `count` empty overflow bytes, allocated by a clone of `alloc`.
-//
-// An error has the number `capacity`.
-fn no_overflows<A: Allocator + Clone>(
-    count: usize,
-    alloc: &A,
-    capacity: usize,
-) -> Result<Vec<Overflow, A>, TryReserveError>
-    ensures made { IfOk result (λ v. v.items ≡ replicate count (record { byte = 0 })) }
-    ensures error { IfErr result (λ e. e.kind ≡ AllocError capacity) }
-{
-    let Ok(own) = alloc.clone() else {
-        return Err(alloc_error(capacity));
-    };
-    match Vec::from_elem_in(Overflow::none(), count, own) {
+    match Vec::from_elem_in(item, count, own) {
         Ok(made) => Ok(made),
         Err(_) => Err(alloc_error(capacity)),
     }
@@ -129,8 +112,8 @@ fn index_for<A: Allocator + Clone>(
     ensures error { IfErr result (λ e. e.kind ≡ AllocError capacity) }
 {
     let slots = slots_for(capacity);
-    let tags = free_tags(slots, alloc, capacity)?;
-    let overflows = no_overflows(slots, alloc, capacity)?;
+    let tags = copies_of(0, slots, alloc, capacity)?;
+    let overflows = copies_of(Overflow::none(), slots, alloc, capacity)?;
     Ok(HashIndex { tags, overflows })
 }
 

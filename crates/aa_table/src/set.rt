@@ -82,7 +82,7 @@ impl<T: Eq + Hash + Drop, A: Allocator + Clone> Set<T, BuildHasherDefault<FoldHa
     }
 }
 
-impl<T: Eq + Hash + Drop, S: BuildHasher, A: Allocator + Clone> Set<T, S, A> {
+impl<T: Eq + Hash, S: BuildHasher, A: Allocator> Set<T, S, A> {
     /// Returns an empty set whose hashers are made by `builder`.
     ///
     /// Does not allocate.
@@ -99,6 +99,11 @@ impl<T: Eq + Hash + Drop, S: BuildHasher, A: Allocator + Clone> Set<T, S, A> {
         ensures { result.now ≡ self.now.builder }
     {
         self.table.hasher()
+    }
+
+    /// Returns a reference to the underlying allocator.
+    pub fn allocator(&self) -> &A {
+        self.table.allocator()
     }
 
     /// Returns the number of elements, each of which is counted once.
@@ -150,6 +155,49 @@ impl<T: Eq + Hash + Drop, S: BuildHasher, A: Allocator + Clone> Set<T, S, A> {
         }
     }
 
+    /// Returns `true` if each element is in `other`.
+    pub fn is_subset(&self, other: &Set<T, S, A>) -> bool
+        ensures { result ≡ list_all (is_member T.eq other.now.elements) self.now.elements }
+    {
+        'each: for value in self.iter() {
+            if !other.contains(value) {
+                return false;
+            }
+        }
+        true
+    }
+
+    /// Returns `true` if each element of `other` is in this set.
+    pub fn is_superset(&self, other: &Set<T, S, A>) -> bool
+        ensures { result ≡ list_all (is_member T.eq self.now.elements) other.now.elements }
+    {
+        other.is_subset(self)
+    }
+
+    /// Returns `true` if no element is in `other`.
+    pub fn is_disjoint(&self, other: &Set<T, S, A>) -> bool
+        ensures { result
+            ≡ list_all (λ x. not (is_member T.eq other.now.elements x)) self.now.elements }
+    {
+        'each: for value in self.iter() {
+            if other.contains(value) {
+                return false;
+            }
+        }
+        true
+    }
+
+    /// Returns an iterator over the elements.
+    ///
+    /// Each element is returned once. The order is not specified.
+    pub fn iter(&self) -> Keys<'_, T, (), A>
+        ensures { result ≡ self.now.elements }
+    {
+        self.table.keys()
+    }
+}
+
+impl<T: Eq + Hash + Drop, S: BuildHasher, A: Allocator + Clone> Set<T, S, A> {
     /// Inserts `value`, and returns `true` if it is new.
     ///
     /// An element that is equal to it is kept, and `value` is dropped.
@@ -385,47 +433,6 @@ impl<T: Eq + Hash + Drop, S: BuildHasher, A: Allocator + Clone> Set<T, S, A> {
             return None;
         };
         Some(element)
-    }
-
-    /// Returns `true` if each element is in `other`.
-    pub fn is_subset(&self, other: &Set<T, S, A>) -> bool
-        ensures { result ≡ list_all (is_member T.eq other.now.elements) self.now.elements }
-    {
-        'each: for value in self.iter() {
-            if !other.contains(value) {
-                return false;
-            }
-        }
-        true
-    }
-
-    /// Returns `true` if each element of `other` is in this set.
-    pub fn is_superset(&self, other: &Set<T, S, A>) -> bool
-        ensures { result ≡ list_all (is_member T.eq self.now.elements) other.now.elements }
-    {
-        other.is_subset(self)
-    }
-
-    /// Returns `true` if no element is in `other`.
-    pub fn is_disjoint(&self, other: &Set<T, S, A>) -> bool
-        ensures { result
-            ≡ list_all (λ x. not (is_member T.eq other.now.elements x)) self.now.elements }
-    {
-        'each: for value in self.iter() {
-            if other.contains(value) {
-                return false;
-            }
-        }
-        true
-    }
-
-    /// Returns an iterator over the elements.
-    ///
-    /// Each element is returned once. The order is not specified.
-    pub fn iter(&self) -> Keys<'_, T, (), A>
-        ensures { result ≡ self.now.elements }
-    {
-        self.table.keys()
     }
 }
 

@@ -159,7 +159,7 @@ impl<K: Eq + Hash + Drop, V: Drop, S: BuildHasher + Drop, A: Allocator + Clone> 
     }
 }
 
-impl<K: Eq + Hash + Drop, V: Drop, S: BuildHasher, A: Allocator + Clone> Table<K, V, S, A> {
+impl<K: Eq + Hash, V, S: BuildHasher, A: Allocator> Table<K, V, S, A> {
     ghost use Rattle.aa_table.specs.Lends.{lends_value};
 
     /// Returns an empty table whose hashers are made by `builder`.
@@ -185,8 +185,8 @@ impl<K: Eq + Hash + Drop, V: Drop, S: BuildHasher, A: Allocator + Clone> Table<K
         &self.builder
     }
 
-    // Returns a reference to the underlying allocator.
-    pub(crate) fn allocator(&self) -> &A {
+    /// Returns a reference to the underlying allocator.
+    pub fn allocator(&self) -> &A {
         self.places.allocator()
     }
 
@@ -301,7 +301,9 @@ impl<K: Eq + Hash + Drop, V: Drop, S: BuildHasher, A: Allocator + Clone> Table<K
     {
         Values { rest: self.iter() }
     }
+}
 
+impl<K: Eq + Hash + Drop, V: Drop, S: BuildHasher, A: Allocator + Clone> Table<K, V, S, A> {
     // Inserts an absent key into a free slot of a table that is not full.
     #[inline(always)]
     fn add(&mut self, hash: u64, key: K, item: V)
@@ -708,8 +710,7 @@ impl<K: Eq + Hash + Drop, V: Drop, S: BuildHasher + Drop, A: Allocator> Table<K,
     }
 }
 
-impl<K: Eq + Hash + Drop, V: Drop, S: BuildHasher, A: Allocator + Clone, Q: Lookup<K>> Index<Q>
-    for Table<K, V, S, A> {
+impl<K: Eq + Hash, V, S: BuildHasher, A: Allocator, Q: Lookup<K>> Index<Q> for Table<K, V, S, A> {
     type Output = V;
 
     ghost can_index = { λ t k. IsSome (lookup (Q.matches k) t.entries) };

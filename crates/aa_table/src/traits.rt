@@ -9,8 +9,7 @@ use std::fmt;
 use std::fmt::{Debug, Formatter};
 use std::hash::{BuildHasher, Hash};
 
-impl<K: Eq + Hash + Drop, V: Drop, S: BuildHasher + Default, A: Allocator + Clone> MadeWith<A>
-    for Table<K, V, S, A> {
+impl<K: Eq + Hash, V, S: BuildHasher + Default, A: Allocator> MadeWith<A> for Table<K, V, S, A> {
     ghost is_made_with = { λ t. (t.entries ≡ []) × (t.capacity ≡ 0) × (t.resizes ≡ 0)
         × S.is_default t.builder };
 
@@ -22,8 +21,7 @@ impl<K: Eq + Hash + Drop, V: Drop, S: BuildHasher + Default, A: Allocator + Clon
     }
 }
 
-impl<K: Eq + Hash + Drop, V: Drop, S: BuildHasher + Clone, A: Allocator + Clone> Emptied
-    for Table<K, V, S, A> {
+impl<K: Eq + Hash, V, S: BuildHasher + Clone, A: Allocator + Clone> Emptied for Table<K, V, S, A> {
     ghost is_emptied = { λ t. (t.entries ≡ []) × (t.capacity ≡ 0) × (t.resizes ≡ 0) };
 
     /// Returns an empty table with clones of the builder and the allocator of `like`.
@@ -42,8 +40,7 @@ impl<K: Eq + Hash + Drop, V: Drop, S: BuildHasher + Clone, A: Allocator + Clone>
     }
 }
 
-impl<'a, K: Eq + Hash + Drop, V: Drop, S: BuildHasher, A: Allocator + Clone> IntoIterator
-    for &'a Table<K, V, S, A> {
+impl<'a, K: Eq + Hash, V, S: BuildHasher, A: Allocator> IntoIterator for &'a Table<K, V, S, A> {
     type Item = (&'a K, &'a V);
 
     type IntoIter = Iter<'a, K, V, A>;
@@ -68,8 +65,7 @@ impl<K: Eq + Hash + Drop, V: Drop, S: BuildHasher + Drop, A: Allocator> IntoIter
     }
 }
 
-impl<K: Eq + Hash + Debug + Drop, V: Debug + Drop, S: BuildHasher, A: Allocator + Clone> Debug
-    for Table<K, V, S, A> {
+impl<K: Eq + Hash + Debug, V: Debug, S: BuildHasher, A: Allocator> Debug for Table<K, V, S, A> {
     /// Formats the entries as a map, in the order of `iter`.
     fn fmt<W: fmt::Write>(&self, f: &mut Formatter<W>) -> fmt::Result {
         f.debug_map().entries(self.iter()).finish()

@@ -137,7 +137,7 @@ fn elements_are_replaced_and_drained(rt: HostRuntime) {
     let mut drain = set.drain();
     assert!(rt; drain.len() == 9 && drain.next().is_some() && drain.len() == 8);
     drop(drain);
-    assert!(rt; set.is_empty() && heap.requests() == 3);
+    assert!(rt; set.is_empty() && set.allocator().requests() == 3);
 }
 
 // The value in the error of a failed replacement, and the kind of the error.

@@ -4,9 +4,9 @@ use aa_table::table::{Table, TryInsertError};
 use allocator_api2::boxed::BoxedText;
 use allocator_api2::collections::{TryReserveError, TryReserveErrorKind};
 use allocator_api2::vec::Vec;
-use std::alloc::{AllocError, Global};
+use std::alloc::{AllocError, Allocator, Global};
 use std::default::{Emptied, MadeWith};
-use std::hash::{BuildHasher, BuildHasherDefault, FoldHasher, Hasher};
+use std::hash::{BuildHasher, BuildHasherDefault, FoldHasher, Hash, Hasher};
 use std::mem;
 use std::ops::Range;
 use std::test::Fail;
@@ -60,6 +60,15 @@ fn keys_are_inserted_and_removed_without_allocating(rt: HostRuntime) {
     }
 }
 
+// What is seen of a table whose keys and values may not be dropped, over any allocator: the number
+// of keys, how many its iterator has, and whether it has a key.
+fn read<K: Eq + Hash, V, S: BuildHasher, A: Allocator>(
+    table: &Table<K, V, S, A>,
+    key: &K,
+) -> (usize, usize, bool) {
+    (table.len(), table.iter().len(), table.contains_key(key))
+}
+
 #[test]
 fn values_are_written_and_all_are_seen(rt: HostRuntime) {
     let heap = Faulty::new(rt.alloc());
@@ -75,8 +84,8 @@ fn values_are_written_and_all_are_seen(rt: HostRuntime) {
     for (key, value) in table.iter() {
         sums = (sums.0.saturating_add(*key), sums.1.saturating_add(*value));
     }
-    assert!(rt; sums == (55, 385) && table.contains_key(&10));
-    assert!(rt; table.insert(10, 0).ok() == Some(Some(100)) && heap.requests() == 3);
+    assert!(rt; sums == (55, 385) && read(&table, &10) == (10, 10, true));
+    assert!(rt; table.insert(10, 0).ok() == Some(Some(100)) && table.allocator().requests() == 3);
 }
 
 #[test]

@@ -29,8 +29,7 @@ impl<'a, T: Eq + Hash, S: BuildHasher, A: Allocator> Model for Intersection<'a, 
     ghost view = { λ it. filter (is_member T.eq it.other.now.elements) it.rest };
 }
 
-impl<'a, T: Eq + Hash + Drop, S: BuildHasher, A: Allocator + Clone> Iterator
-    for Intersection<'a, T, S, A> {
+impl<'a, T: Eq + Hash, S: BuildHasher, A: Allocator> Iterator for Intersection<'a, T, S, A> {
     type Item = &'a T;
 
     ghost next_gives = { YieldsFirstBy (λ value. value.now) (λ rest. rest) };
@@ -53,8 +52,7 @@ impl<'a, T: Eq + Hash + Drop, S: BuildHasher, A: Allocator + Clone> Iterator
     }
 }
 
-impl<'a, T: Eq + Hash + Drop, S: BuildHasher, A: Allocator + Clone> FusedIterator
-    for Intersection<'a, T, S, A> {}
+impl<'a, T: Eq + Hash, S: BuildHasher, A: Allocator> FusedIterator for Intersection<'a, T, S, A> {}
 
 /// An iterator over the elements of a set that are not in another set.
 ///
@@ -74,8 +72,7 @@ impl<'a, T: Eq + Hash, S: BuildHasher, A: Allocator> Model for Difference<'a, T,
     ghost view = { λ it. filter (λ x. not (is_member T.eq it.other.now.elements x)) it.rest };
 }
 
-impl<'a, T: Eq + Hash + Drop, S: BuildHasher, A: Allocator + Clone> Iterator
-    for Difference<'a, T, S, A> {
+impl<'a, T: Eq + Hash, S: BuildHasher, A: Allocator> Iterator for Difference<'a, T, S, A> {
     type Item = &'a T;
 
     ghost next_gives = { YieldsFirstBy (λ value. value.now) (λ rest. rest) };
@@ -98,8 +95,7 @@ impl<'a, T: Eq + Hash + Drop, S: BuildHasher, A: Allocator + Clone> Iterator
     }
 }
 
-impl<'a, T: Eq + Hash + Drop, S: BuildHasher, A: Allocator + Clone> FusedIterator
-    for Difference<'a, T, S, A> {}
+impl<'a, T: Eq + Hash, S: BuildHasher, A: Allocator> FusedIterator for Difference<'a, T, S, A> {}
 
 /// An iterator over the elements of two sets, without those of the second that the first has.
 ///
@@ -118,8 +114,7 @@ impl<'a, T: Eq + Hash, S: BuildHasher, A: Allocator> Model for Union<'a, T, S, A
     ghost view = { λ it. it.first ++ it.second };
 }
 
-impl<'a, T: Eq + Hash + Drop, S: BuildHasher, A: Allocator + Clone> Iterator
-    for Union<'a, T, S, A> {
+impl<'a, T: Eq + Hash, S: BuildHasher, A: Allocator> Iterator for Union<'a, T, S, A> {
     type Item = &'a T;
 
     ghost next_gives = { YieldsFirstBy (λ value. value.now) (λ rest. rest) };
@@ -136,8 +131,7 @@ impl<'a, T: Eq + Hash + Drop, S: BuildHasher, A: Allocator + Clone> Iterator
     }
 }
 
-impl<'a, T: Eq + Hash + Drop, S: BuildHasher, A: Allocator + Clone> FusedIterator
-    for Union<'a, T, S, A> {}
+impl<'a, T: Eq + Hash, S: BuildHasher, A: Allocator> FusedIterator for Union<'a, T, S, A> {}
 
 /// An iterator over the elements of each of two sets that the other does not have.
 ///
@@ -157,8 +151,7 @@ impl<'a, T: Eq + Hash, S: BuildHasher, A: Allocator> Model for SymmetricDifferen
     ghost view = { λ it. it.first ++ it.second };
 }
 
-impl<'a, T: Eq + Hash + Drop, S: BuildHasher, A: Allocator + Clone> Iterator
-    for SymmetricDifference<'a, T, S, A> {
+impl<'a, T: Eq + Hash, S: BuildHasher, A: Allocator> Iterator for SymmetricDifference<'a, T, S, A> {
     type Item = &'a T;
 
     ghost next_gives = { YieldsFirstBy (λ value. value.now) (λ rest. rest) };
@@ -175,10 +168,10 @@ impl<'a, T: Eq + Hash + Drop, S: BuildHasher, A: Allocator + Clone> Iterator
     }
 }
 
-impl<'a, T: Eq + Hash + Drop, S: BuildHasher, A: Allocator + Clone> FusedIterator
+impl<'a, T: Eq + Hash, S: BuildHasher, A: Allocator> FusedIterator
     for SymmetricDifference<'a, T, S, A> {}
 
-impl<T: Eq + Hash + Drop, S: BuildHasher, A: Allocator + Clone> Set<T, S, A> {
+impl<T: Eq + Hash, S: BuildHasher, A: Allocator> Set<T, S, A> {
     /// Returns an iterator over the elements that are in `other`, in the order of `iter`.
     pub fn intersection<'a>(&'a self, other: &'a Set<T, S, A>) -> Intersection<'a, T, S, A>
         ensures { result ≡ filter (is_member T.eq other.now.elements) self.now.elements }

@@ -24,7 +24,7 @@ pub(crate) enum Part {
     Nothing,
 }
 
-impl<T: Eq + Hash + Drop, S: BuildHasher, A: Allocator + Clone> Set<T, S, A> {
+impl<T: Eq + Hash, S: BuildHasher, A: Allocator> Set<T, S, A> {
     // Returns `true` if `value` is in this part of a set, beside `self`.
     fn has_in(&self, part: Part, value: &T) -> bool
         ensures { result ≡ is_in T.eq part self.now.elements value.now }

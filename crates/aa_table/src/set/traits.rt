@@ -14,8 +14,7 @@ use std::fmt;
 use std::fmt::{Debug, Formatter};
 use std::hash::{BuildHasher, Hash};
 
-impl<T: Eq + Hash + Drop, S: BuildHasher + Default, A: Allocator + Clone> MadeWith<A>
-    for Set<T, S, A> {
+impl<T: Eq + Hash, S: BuildHasher + Default, A: Allocator> MadeWith<A> for Set<T, S, A> {
     ghost is_made_with = { λ s. (s.elements ≡ []) × (s.capacity ≡ 0) × (s.resizes ≡ 0)
         × S.is_default s.builder };
 
@@ -27,7 +26,7 @@ impl<T: Eq + Hash + Drop, S: BuildHasher + Default, A: Allocator + Clone> MadeWi
     }
 }
 
-impl<T: Eq + Hash + Drop, S: BuildHasher + Clone, A: Allocator + Clone> Emptied for Set<T, S, A> {
+impl<T: Eq + Hash, S: BuildHasher + Clone, A: Allocator + Clone> Emptied for Set<T, S, A> {
     ghost is_emptied = { λ s. (s.elements ≡ []) × (s.capacity ≡ 0) × (s.resizes ≡ 0) };
 
     /// Returns an empty set with clones of the builder and the allocator of `like`.
@@ -66,8 +65,7 @@ impl<T: Eq + Hash + Clone + Drop, S: BuildHasher + Clone + Drop, A: Allocator + 
     }
 }
 
-impl<'a, T: Eq + Hash + Drop, S: BuildHasher, A: Allocator + Clone> IntoIterator
-    for &'a Set<T, S, A> {
+impl<'a, T: Eq + Hash, S: BuildHasher, A: Allocator> IntoIterator for &'a Set<T, S, A> {
     type Item = &'a T;
 
     type IntoIter = Keys<'a, T, (), A>;
@@ -91,14 +89,14 @@ impl<T: Eq + Hash + Drop, S: BuildHasher + Drop, A: Allocator> IntoIterator for 
     }
 }
 
-impl<T: Eq + Hash + Debug + Drop, S: BuildHasher, A: Allocator + Clone> Debug for Set<T, S, A> {
+impl<T: Eq + Hash + Debug, S: BuildHasher, A: Allocator> Debug for Set<T, S, A> {
     /// Formats the elements as a set, in the order of `iter`.
     fn fmt<W: fmt::Write>(&self, f: &mut Formatter<W>) -> fmt::Result {
         f.debug_set().entries(self.iter()).finish()
     }
 }
 
-impl<T: Eq + Hash + Drop, S: BuildHasher, A: Allocator + Clone> PartialEq for Set<T, S, A> {
+impl<T: Eq + Hash, S: BuildHasher, A: Allocator> PartialEq for Set<T, S, A> {
     ghost eq = { λ left right. same_elements T.eq left.elements right.elements };
 
     ghost laws = { partial_equiv_from_equiv
@@ -110,6 +108,6 @@ impl<T: Eq + Hash + Drop, S: BuildHasher, A: Allocator + Clone> PartialEq for Se
     }
 }
 
-impl<T: Eq + Hash + Drop, S: BuildHasher, A: Allocator + Clone> Eq for Set<T, S, A> {
+impl<T: Eq + Hash, S: BuildHasher, A: Allocator> Eq for Set<T, S, A> {
     ghost laws = { on_equiv (λ s. s.elements) (same-equiv T.Eq.laws) };
 }

@@ -53,7 +53,7 @@ impl<K: Eq + Hash + Drop, V: Drop, S: BuildHasher, A: Allocator + Clone> Table<K
     }
 }
 
-impl<'a, K: Eq + Hash + Drop, V: Drop, S: BuildHasher, A: Allocator + Clone> Entry<'a, K, V, S, A> {
+impl<'a, K: Eq + Hash, V, S: BuildHasher, A: Allocator> Entry<'a, K, V, S, A> {
     /// Returns a reference to the stored key, or to the one that was passed if none is stored.
     pub fn key(&self) -> &K
         ensures { result.now ≡ stored_key self.now }
@@ -63,7 +63,9 @@ impl<'a, K: Eq + Hash + Drop, V: Drop, S: BuildHasher, A: Allocator + Clone> Ent
             Entry::Vacant(entry) => entry.key(),
         }
     }
+}
 
+impl<'a, K: Eq + Hash + Drop, V: Drop, S: BuildHasher, A: Allocator + Clone> Entry<'a, K, V, S, A> {
     /// Inserts `default` if the key is absent, and returns a mutable reference to the value.
     ///
     /// When the borrow ends, the key has the last value written to it. Allocates only if the key is
@@ -202,7 +204,9 @@ impl<'a, K: Eq + Hash + Drop, V: Drop, S: BuildHasher, A: Allocator + Clone> Ent
             Entry::Vacant(entry) => entry.insert(V::default()),
         }
     }
+}
 
+impl<'a, K: Eq + Hash, V, S: BuildHasher, A: Allocator> Entry<'a, K, V, S, A> {
     /// Calls `f` with a mutable reference to the value if the key is present, and returns the entry.
     pub fn and_modify<F: FnOnce(&mut V) + Drop>(self, f: F) -> Entry<'a, K, V, S, A>
         requires callable { (p : MutBor V) → entry_value self ≡ Some p.now → F.pre f p }

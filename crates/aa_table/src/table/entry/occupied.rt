@@ -11,13 +11,7 @@ use std::alloc::Allocator;
 use std::hash::{BuildHasher, Hash};
 use std::mem;
 
-impl<'a, K: Eq + Hash + Drop, V: Drop, S: BuildHasher, A: Allocator + Clone> OccupiedEntry<
-    'a,
-    K,
-    V,
-    S,
-    A,
-> {
+impl<'a, K: Eq + Hash, V, S: BuildHasher, A: Allocator> OccupiedEntry<'a, K, V, S, A> {
     /// Returns a reference to the stored key.
     pub fn key(&self) -> &K
         ensures { result.now ≡ stored_key (Occupied self.now) }
@@ -46,6 +40,23 @@ impl<'a, K: Eq + Hash + Drop, V: Drop, S: BuildHasher, A: Allocator + Clone> Occ
         f(self.table.stored_mut(slot, &self.key));
     }
 
+    /// Sets the value to `value`, and returns the old value.
+    pub fn insert(&mut self, value: V) -> V
+        ensures old { entry_value (Occupied self.old) ≡ Some result }
+        ensures written { IsWritten (Occupied self.old) value (Occupied self.new) }
+    {
+        let slot = self.slot;
+        mem::replace(self.table.stored_mut(slot, &self.key), value)
+    }
+}
+
+impl<'a, K: Eq + Hash + Drop, V: Drop, S: BuildHasher, A: Allocator + Clone> OccupiedEntry<
+    'a,
+    K,
+    V,
+    S,
+    A,
+> {
     /// Consumes the entry and returns a mutable reference to the value in the table.
     ///
     /// When the borrow ends, the key has the last value written to it. The keys and their order do
@@ -57,15 +68,6 @@ impl<'a, K: Eq + Hash + Drop, V: Drop, S: BuildHasher, A: Allocator + Clone> Occ
     {
         let OccupiedEntry { table, key, slot } = self;
         table.stored_mut(slot, &key)
-    }
-
-    /// Sets the value to `value`, and returns the old value.
-    pub fn insert(&mut self, value: V) -> V
-        ensures old { entry_value (Occupied self.old) ≡ Some result }
-        ensures written { IsWritten (Occupied self.old) value (Occupied self.new) }
-    {
-        let slot = self.slot;
-        mem::replace(self.table.stored_mut(slot, &self.key), value)
     }
 
     /// Removes the entry from the table and returns its value.

@@ -11,13 +11,7 @@ use allocator_api2::collections::Refused;
 use std::alloc::Allocator;
 use std::hash::{BuildHasher, Hash};
 
-impl<'a, K: Eq + Hash + Drop, V: Drop, S: BuildHasher, A: Allocator + Clone> VacantEntry<
-    'a,
-    K,
-    V,
-    S,
-    A,
-> {
+impl<'a, K: Eq + Hash, V, S: BuildHasher, A: Allocator> VacantEntry<'a, K, V, S, A> {
     /// Returns a reference to the key that `insert` would store.
     pub fn key(&self) -> &K
         ensures { result.now ≡ entry_key (Vacant self.now) }
@@ -37,7 +31,15 @@ impl<'a, K: Eq + Hash + Drop, V: Drop, S: BuildHasher, A: Allocator + Clone> Vac
         } = self;
         key
     }
+}
 
+impl<'a, K: Eq + Hash + Drop, V: Drop, S: BuildHasher, A: Allocator + Clone> VacantEntry<
+    'a,
+    K,
+    V,
+    S,
+    A,
+> {
     /// Inserts the key with the value `value`, and returns a mutable reference to the value.
     ///
     /// When the borrow ends, the key has the last value written to it. Allocates only if the table
