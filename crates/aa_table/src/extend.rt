@@ -1,5 +1,5 @@
 //! A table made of the items of an iterator, or extended by them.
-ghost use Rattle.std.specs.Prelude.{◌≡◌, List, length, [], Err, IfErr, IfOk, IsOk, OnOk};
+ghost use Rattle.std.specs.Prelude.{map, ◌≡◌, List, length, [], Err, IfErr, IfOk, IsOk, OnOk};
 ghost use Rattle.std.specs.Iterator.{Drains, ExtendsWithItems, IsFiniteIterable, size};
 ghost use Rattle.std.specs.Iterator.Runs.{WholeRun};
 ghost use Rattle.aa_table.specs.Full.{LacksRoom};
@@ -106,6 +106,39 @@ impl<K: Eq + Hash + Drop, V: Drop, S: BuildHasher, A: Allocator + Clone> Extend<
             Ok(()) => Ok(()),
             Err(_) => Err(AllocError),
         }
+    }
+}
+
+impl<
+    'a,
+    K: Eq + Hash + Copy + Drop + 'a,
+    V: Copy + Drop + 'a,
+    S: BuildHasher,
+    A: Allocator + Clone,
+> Extend<(&'a K, &'a V)> for Table<K, V, S, A> {
+    ghost extend_gives = { λ t xs after.
+        InsertsAll K.eq t (map (λ e. (e.0.now, e.1.now)) xs) after };
+
+    /// Inserts a copy of each item, as the inherent `extend` inserts the items.
+    fn extend<U: IntoIterator<Item = (&'a K, &'a V)>>(&mut self, iter: U) -> Result<(), AllocError>
+        requires finite { IsFiniteIterable U.into_iter_gives U.IntoIter.can_next
+            U.IntoIter.remaining iter }
+        ensures extended { ExtendsWithItems U.into_iter_gives U.IntoIter.next_gives
+            (λ t xs after. InsertsAll K.eq t (map (λ e. (e.0.now, e.1.now)) xs) after)
+            iter self.old self.new result }
+        ensures fits { ((it : U.IntoIter) → U.into_iter_gives iter it
+            → HasRoom self.old (size (U.IntoIter.remaining it))) → IsOk result }
+        ensures steady { ((it : U.IntoIter) → U.into_iter_gives iter it
+            → HasRoom self.old (size (U.IntoIter.remaining it)))
+            → (self.new.capacity ≡ self.old.capacity) × (self.new.resizes ≡ self.old.resizes) }
+    {
+        'each: for entry in iter {
+            match self.insert(*entry.0, *entry.1) {
+                Ok(old) => drop(old),
+                Err(_) => return Err(AllocError),
+            }
+        }
+        Ok(())
     }
 }
 

@@ -4,6 +4,7 @@ use allocator_api2::collections::{TryReserveError, TryReserveErrorKind};
 use std::alloc::{AllocError, Global};
 use std::default::{Emptied, MadeWith};
 use std::hash::{BuildHasherDefault, FoldHasher};
+use std::iter::Extend;
 use std::ops::Range;
 use std::test::Fail;
 use test_allocators::Faulty;
@@ -116,9 +117,10 @@ fn sets_are_collected_and_cloned(rt: HostRuntime) -> Result<(), Fail> {
     assert!(rt; set.len() == 3 && set == set.clone()?);
     assert!(rt; Plain::emptied(&set)? == Plain::made_with(heap));
     set.extend([3, 4])?;
-    assert!(rt; set == made(heap, &[4, 3, 2, 1])?);
+    Extend::extend(&mut set, &[4, 5])?;
+    assert!(rt; set == made(heap, &[5, 4, 3, 2, 1])?);
     let all = Set::from_iter_in(set, heap)?;
-    assert!(rt; all.len() == 4 && all.contains(&4));
+    assert!(rt; all.len() == 5 && all.contains(&4));
     Ok(())
 }
 

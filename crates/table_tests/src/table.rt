@@ -7,6 +7,7 @@ use allocator_api2::vec::Vec;
 use std::alloc::{AllocError, Allocator, Global};
 use std::default::{Emptied, MadeWith};
 use std::hash::{BuildHasher, BuildHasherDefault, FoldHasher, Hash, Hasher};
+use std::iter::Extend;
 use std::mem;
 use std::ops::Range;
 use std::test::Fail;
@@ -441,6 +442,9 @@ fn the_last_of_equal_keys_sets_the_value(rt: HostRuntime) -> Result<(), Fail> {
     );
     table.extend([(1, 2)])?;
     assert!(rt; table != other && table.get(&1) == Some(&2));
+    let mut copy = Plain::made_with(heap);
+    Extend::extend(&mut copy, &table)?;
+    assert!(rt; copy == table);
     let mut sum = 0u64;
     for (key, value) in &table {
         sum = sum.saturating_add(*key).saturating_add(*value);

@@ -1,5 +1,5 @@
 //! A set made of the items of an iterator, or extended by them.
-ghost use Rattle.std.specs.Prelude.{◌≡◌, List, length, [], Err, IfErr, IfOk, IsOk, OnOk};
+ghost use Rattle.std.specs.Prelude.{◌≡◌, List, length, map, [], Err, IfErr, IfOk, IsOk, OnOk};
 ghost use Rattle.std.specs.Iterator.{Drains, ExtendsWithItems, IsFiniteIterable, size};
 ghost use Rattle.std.specs.Iterator.Runs.{WholeRun};
 ghost use Rattle.aa_table.specs.Full.{LacksRoom};
@@ -99,6 +99,33 @@ impl<T: Eq + Hash + Drop, S: BuildHasher, A: Allocator + Clone> Extend<T> for Se
             Ok(()) => Ok(()),
             Err(_) => Err(AllocError),
         }
+    }
+}
+
+impl<'a, T: Eq + Hash + Copy + Drop + 'a, S: BuildHasher, A: Allocator + Clone> Extend<&'a T>
+    for Set<T, S, A> {
+    ghost extend_gives = { λ s xs after. InsertsElements T.eq s (map (λ x. x.now) xs) after };
+
+    /// Inserts a copy of each item, as the inherent `extend` inserts the items.
+    fn extend<U: IntoIterator<Item = &'a T>>(&mut self, iter: U) -> Result<(), AllocError>
+        requires finite { IsFiniteIterable U.into_iter_gives U.IntoIter.can_next
+            U.IntoIter.remaining iter }
+        ensures extended { ExtendsWithItems U.into_iter_gives U.IntoIter.next_gives
+            (λ s xs after. InsertsElements T.eq s (map (λ x. x.now) xs) after)
+            iter self.old self.new result }
+        ensures fits { ((it : U.IntoIter) → U.into_iter_gives iter it
+            → SetHasRoom self.old (size (U.IntoIter.remaining it))) → IsOk result }
+        ensures steady { ((it : U.IntoIter) → U.into_iter_gives iter it
+            → SetHasRoom self.old (size (U.IntoIter.remaining it)))
+            → (self.new.capacity ≡ self.old.capacity) × (self.new.resizes ≡ self.old.resizes) }
+    {
+        'each: for value in iter {
+            match self.insert(*value) {
+                Ok(_) => {}
+                Err(_) => return Err(AllocError),
+            }
+        }
+        Ok(())
     }
 }
 
