@@ -65,6 +65,13 @@ module _ (c r d s n e q m : ℕ) (a : GrowsInTurn c r d s n) where
   ]
   grows-more (inr p) = stays-grown p.1 p.2 (omega (arith, p.0))
 
+-- how rarely a table grew that was empty
+pub resizes-few : (d r n : ℕ) → GrowsInTurn 0 0 d r n → 7 * 2 ^ r ≤ max 14 (2 * n)
+resizes-few d r n g =
+    let few : 2 ^ r * 14 ≤ max 14 (2 * d) = subst (λ k. 2 ^ k * 14 ≤ max 14 (2 * d))
+    (omega arith) g.few in
+    omega (arith, g.most, few)
+
 module _ {K V : Type 0} (eq : K → K → Bool) where
   -- one more of them
   pub set-more : (es xs new newer : List (K × V)) (k : K) (v : V) → SetsAll eq es xs new

@@ -1,5 +1,5 @@
 //! A table made of the items of an iterator, or extended by them.
-ghost use Rattle.std.specs.Prelude.{map, ◌≡◌, List, length, [], Err, IfErr, IfOk, IsOk, OnOk};
+ghost use Rattle.std.specs.Prelude.{map, max, ◌≡◌, ◌*◌, ◌^◌, ◌≤◌, List, length, [], Err, IfErr, IfOk, IsOk, OnOk};
 ghost use Rattle.std.specs.Iterator.{Drains, ExtendsWithItems, IsFiniteIterable, size};
 ghost use Rattle.std.specs.Iterator.Runs.{WholeRun};
 ghost use Rattle.aa_table.specs.Full.{LacksRoom};
@@ -71,6 +71,8 @@ impl<K: Eq + Hash + Drop, V: Drop, A: Allocator + Clone> Table<
         ensures runs { IfOk result (λ t. (it : U.IntoIter) × U.into_iter_gives iter it
             × WholeRun U.IntoIter.next_gives it
             (λ p. InsertsAll K.eq (empty t.builder) p.items t)) }
+        ensures few { IfOk result
+            (λ t. 7 * 2 ^ t.resizes ≤ max 14 (2 * length t.entries)) }
         ensures fits { ((it : U.IntoIter) → U.into_iter_gives iter it
             → size (U.IntoIter.remaining it) ≡ 0) → IsOk result }
         ensures failed { IfErr result (λ e. (t : TableView K V (BuildHasherDefault FoldHasher))

@@ -1,5 +1,5 @@
 //! A set made of the items of an iterator, or extended by them.
-ghost use Rattle.std.specs.Prelude.{◌≡◌, List, length, map, [], Err, IfErr, IfOk, IsOk, OnOk};
+ghost use Rattle.std.specs.Prelude.{◌≡◌, ◌*◌, ◌^◌, ◌≤◌, List, length, map, max, [], Err, IfErr, IfOk, IsOk, OnOk};
 ghost use Rattle.std.specs.Iterator.{Drains, ExtendsWithItems, IsFiniteIterable, size};
 ghost use Rattle.std.specs.Iterator.Runs.{WholeRun};
 ghost use Rattle.aa_table.specs.Full.{LacksRoom};
@@ -65,6 +65,8 @@ impl<T: Eq + Hash + Drop, A: Allocator + Clone> Set<T, BuildHasherDefault<FoldHa
         ensures runs { IfOk result (λ s. (it : U.IntoIter) × U.into_iter_gives iter it
             × WholeRun U.IntoIter.next_gives it
             (λ p. InsertsElements T.eq (no_elements s.builder) p.items s)) }
+        ensures few { IfOk result
+            (λ s. 7 * 2 ^ s.resizes ≤ max 14 (2 * length s.elements)) }
         ensures fits { ((it : U.IntoIter) → U.into_iter_gives iter it
             → size (U.IntoIter.remaining it) ≡ 0) → IsOk result }
         ensures failed { IfErr result (λ e. (s : SetView T (BuildHasherDefault FoldHasher))

@@ -1,4 +1,5 @@
-use Rattle.aa_table.proofs.Extending.{inserts-fresh}
+use Rattle.std.proofs.Common.{length}
+use Rattle.aa_table.proofs.Extending.{inserts-fresh, resizes-few}
 use Rattle.aa_table.proofs.extend.Table+K+V+BuildHasherDefault+FoldHasher+A.from_iter_in.Goals as goal
 
 pub returns-in-Err-clause-failed : goal.returns-in-Err-clause-failed
@@ -22,3 +23,9 @@ returns-in-Ok-clause-runs g c =
     let fresh = inserts-fresh g.K.PartialEq.eq c.new_in-table.result c.extend.new.self f.2.0.items
     new.entries new.capacity new.resizes f.2.3 in
     (f.0, f.1, (f.2.0, f.2.1, f.2.2, fresh))
+
+pub returns-in-Ok-clause-few : goal.returns-in-Ok-clause-few
+returns-in-Ok-clause-few g c =
+    let fresh = (returns-in-Ok-clause-collected g c).4 in
+    let table = c.extend.new.self in
+    resizes-few table.capacity table.resizes (length table.entries) fresh.growth

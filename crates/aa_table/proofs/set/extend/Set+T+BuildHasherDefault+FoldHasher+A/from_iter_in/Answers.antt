@@ -1,4 +1,6 @@
+use Rattle.std.proofs.Common.{length}
 use Rattle.aa_table.proofs.Elementwise.{elements-fresh}
+use Rattle.aa_table.proofs.Extending.{resizes-few}
 use Rattle.aa_table.proofs.set.extend.Set+T+BuildHasherDefault+FoldHasher+A.from_iter_in.Goals as goal
 
 pub returns-in-Err-clause-failed : goal.returns-in-Err-clause-failed
@@ -22,3 +24,9 @@ returns-in-Ok-clause-runs g c =
     let fresh = elements-fresh g.T.PartialEq.eq c.new_in-set.result c.extend.new.self f.2.0.items
     new.elements new.capacity new.resizes f.2.3 in
     (f.0, f.1, (f.2.0, f.2.1, f.2.2, fresh))
+
+pub returns-in-Ok-clause-few : goal.returns-in-Ok-clause-few
+returns-in-Ok-clause-few g c =
+    let fresh = (returns-in-Ok-clause-collected g c).4 in
+    let set = c.extend.new.self in
+    resizes-few set.capacity set.resizes (length set.elements) fresh.growth
