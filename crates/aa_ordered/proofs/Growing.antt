@@ -1,5 +1,5 @@
 -- How far a map grows while entries are inserted one by one, and how often.
-use Rattle.std.proofs.Common.{◌≡◌, ◌+◌, ◌-◌, ◌*◌, ◌/◌, ◌^◌, ◌≤◌, ◌<◌, ℕ, inl, inr, arith, length, ap, ◌∙◌}
+use Rattle.std.proofs.Common.{◌≡◌, ◌+◌, ◌-◌, ◌*◌, ◌/◌, ◌^◌, ◌≤◌, ◌<◌, ℕ, inl, inr, arith, length, ap, subst, ◌∙◌}
 use Rattle.std.specs.Prelude.{max}
 use Rattle.std.proofs.Math.Nat.{mul_assoc, pow-succ'}
 use Rattle.std.proofs.lemmas.Bool.{cases_lt}
@@ -29,6 +29,14 @@ more-pow k = ap (λ i. 2 ^ i) (omega arith) ∙ pow-succ' 2 k
 
 few-step : (k x y z : ℕ) → 2 ^ k * x ≤ y → 2 * y ≤ z → 2 ^ (k + 1) * x ≤ z
 few-step k x y z h d = let e = ap (λ i. i * x) (more-pow k) ∙ mul_assoc 2 (2 ^ k) x in omega (arith, e, h, d)
+
+-- how rarely a map grew that was empty
+pub resizes-few : (c r n : ℕ) → 2 ^ (r - 0) * twice_leaves_of 0 ≤ twice_leaves_of c
+    → c ≤ max 0 (max 64 (2 * n)) → 2 ^ r ≤ max 2 (n / 8)
+resizes-few c r n few most =
+    let from : 2 ^ r * 1 ≤ twice_leaves_of c = subst (λ k. 2 ^ k * 1 ≤ twice_leaves_of c)
+    (omega arith) few in
+    omega (arith, from, most)
 
 module _ {K V : Type 0} where
   for-one : (m : OrderedView K V) → capacity_of (requested_leaves m 1) ≡ grown_capacity m.capacity (length m.entries)

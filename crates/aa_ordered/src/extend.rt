@@ -1,5 +1,5 @@
 //! A map made of the items of an iterator, or extended by them.
-ghost use Rattle.std.specs.Prelude.{◌≡◌, List, Err, IfErr, IfOk, IsOk};
+ghost use Rattle.std.specs.Prelude.{◌≡◌, ◌/◌, ◌^◌, ◌≤◌, List, length, max, Err, IfErr, IfOk, IsOk};
 ghost use Rattle.std.specs.Iterator.{Drains, ExtendsWithItems, IsFiniteIterable, size};
 ghost use Rattle.allocator_api2.specs.Errors.{IsErrorFor};
 ghost use Rattle.aa_ordered.specs.Capacity.{requested};
@@ -62,6 +62,7 @@ impl<K: Ord + Drop, V: Drop, A: Allocator + Copy> OrderedMap<K, V, A> {
         ensures collected { IfOk result (λ map. (it : U.IntoIter) × (xs : List (K × V))
             × U.into_iter_gives iter it × Drains U.IntoIter.next_gives it xs
             × InsertsAll K.cmp empty xs map) }
+        ensures few { IfOk result (λ map. 2 ^ map.resizes ≤ max 2 (length map.entries / 8)) }
         ensures fits { ((it : U.IntoIter) → U.into_iter_gives iter it
             → size (U.IntoIter.remaining it) ≡ 0) → IsOk result }
         ensures failed { IfErr result (λ e. (map : OrderedView K V)
