@@ -81,7 +81,21 @@ module _ {T A : Type 0} where
             else with_growth r.grown (length r.items) r.capacity (growth_capacity size r k);
       }
 
+  -- `r` after capacity for exactly `k` more items was reserved: if they did not fit, its items were
+  -- moved into one slice, and then once to a block for no more than these
+  abbrev pub with_exact_room : Ringed T A → (k : ℕ) → Ringed T A
+  with_exact_room r k =
+      let n = length r.items in
+      let whole = contiguous r r.items in
+      if nat_le k (r.capacity - n) then r
+      else record whole { capacity = n + k; grown = with_growth r.grown n r.capacity (n + k) }
+
   -- `k` more items did not fit in `r`, and growing failed with `error`
   abbrev pub LacksRoom : (size : ℕ) → Ringed T A → (k : ℕ) → TryReserveError → Type 0
   LacksRoom size r k error = Room.LacksRoom size r.capacity (length r.items) k
       (growth_capacity size r k) error
+
+  -- `k` more items did not fit in `r`, and growing to exactly the new length failed with `error`
+  abbrev pub LacksExactRoom : (size : ℕ) → Ringed T A → (k : ℕ) → TryReserveError → Type 0
+  LacksExactRoom size r k error =
+      let n = length r.items in Room.LacksRoom size r.capacity n k (n + k) error

@@ -19,6 +19,7 @@ mod format;
 mod made;
 mod many;
 mod pops;
+mod reserve;
 mod resize;
 mod retain;
 mod search;

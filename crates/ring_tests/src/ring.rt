@@ -443,6 +443,20 @@ fn items_are_exchanged_and_capacity_is_freed(rt: HostRuntime) {
 }
 
 #[test]
+fn exact_capacity_is_reserved(rt: HostRuntime) {
+    let heap = Faulty::new(rt.alloc());
+    let mut ring = turned(&heap, 0..6);
+    assert!(rt; ring.reserve_exact(2) == Ok(()) && ring.capacity() == 8);
+    heap.fail_requests(0, 1);
+    let error = TryReserveErrorKind::AllocError { capacity: 9 }.into();
+    assert!(rt; ring.reserve_exact(3) == Err(error) && ring.capacity() == 8);
+    let error = TryReserveErrorKind::CapacityOverflow.into();
+    assert!(rt; ring.reserve_exact(usize::MAX) == Err(error) && has(&ring, &[0, 1, 2, 3, 4, 5]));
+    assert!(rt; ring.reserve_exact(3) == Ok(()) && ring.capacity() == 9);
+    assert!(rt; has(&ring, &[0, 1, 2, 3, 4, 5]));
+}
+
+#[test]
 fn all_items_are_taken_out(rt: HostRuntime) {
     let heap = Faulty::new(rt.alloc());
     let mut ring = turned(&heap, 0..6);
