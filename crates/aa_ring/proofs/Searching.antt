@@ -113,6 +113,19 @@ not_gt Less e f = cc
 not_gt Equal e f = cc
 not_gt Greater e f = cc
 
+-- a key that a call of a closure computed, compared with `b`
+module _ {F X K : Type 0} (g : Mut F (Bor X × Unit {0}) K) (key : X → K) (f : F) (x : X) (r : K) (f' : F)
+    (c : CalledAt g f x r f') (h : ComputesKey g key f) (cmp : K → K → Ordering) (b : K) (o : Ordering)
+    (e : o ≡ cmp r b) where
+  order : cmp (key x) b ≡ o
+  order = ap (λ k. cmp k b) (sym (computed g key f x r f' c h)) ∙ sym e
+
+  pub key-above : true ≡ is_gt o → cmp (key x) b ≡ Greater
+  key-above t = order ∙ gt_is o (sym t)
+
+  pub key-not_above : false ≡ is_gt o → ¬ (cmp (key x) b ≡ Greater)
+  key-not_above t gt = not_gt o (sym t) (sym order ∙ gt)
+
 not_true : (b : Bool) → ¬ (b ≡ true) → b ≡ false
 not_true true h = absurd (h refl)
 not_true false h = refl

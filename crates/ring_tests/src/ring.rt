@@ -410,6 +410,10 @@ fn sorted_items_are_found_and_shown(rt: HostRuntime) {
         assert!(rt; ring.binary_search(&item) == found);
         assert!(rt; ring.binary_search_by(|other| other.cmp(&item)) == found);
     }
+    for (key, found) in [(1, Ok(0)), (7, Ok(3)), (9, Ok(4)), (0, Err(0)), (4, Err(2))] {
+        let by_key = ring.binary_search_by_key(&key, |item| item.wrapping_add(1));
+        assert!(rt; by_key == found);
+    }
     for (end, count) in [(0, 0), (1, 1), (5, 3), (9, 5)] {
         assert!(rt; ring.partition_point(|item| *item < end) == count);
     }

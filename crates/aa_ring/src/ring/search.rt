@@ -60,6 +60,38 @@ impl<T, A: Allocator> Ring<T, A> {
         }
     }
 
+    /// Searches the items, which are sorted by the key that the closure `f` returns, for one whose
+    /// key equals `b`.
+    ///
+    /// Returns the index of such an item. If there is none, returns as `Err` the index at which an
+    /// item with the key `b` could be inserted so that the items remain sorted by their keys.
+    pub fn binary_search_by_key<B: Ord, F: FnMut(&T) -> B>(
+        &self,
+        b: &B,
+        mut f: F,
+    ) -> Result<usize, usize>
+    where
+        B: Drop,
+        requires { F.IsAlwaysCallable f }
+        ensures bound { IsSearchInRange result (length self.now.items) }
+        ensures cases { (key : T → B) → ComputesKey F.FnMut key f
+            → IsBinarySearchResult (λ y. B.cmp (key y) b.now) self.now.items result }
+    {
+        // The contract of `len` says that the number of items is a `usize`.
+        let _len = self.len();
+        let (first, others) = self.as_slices();
+        let Some(item) = first_of(others) else {
+            return first.binary_search_by_key(b, f);
+        };
+        if call_on(&mut f, item).cmp(b).is_gt() {
+            return first.binary_search_by_key(b, f);
+        }
+        match others.binary_search_by_key(b, f) {
+            Ok(found) => Ok(first.len() + found),
+            Err(place) => Err(first.len() + place),
+        }
+    }
+
     /// Returns the index of the first item at which `pred` returns `false`, or the length if there
     /// is none.
     ///
