@@ -8,3 +8,4 @@ pub mod Fews
 pub mod Spilled
 pub mod Sifting
 pub mod Remaining
+pub mod Results

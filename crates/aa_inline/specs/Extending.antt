@@ -1,7 +1,7 @@
 -- A small vector after items were appended, one by one, and one with clones.
 use Rattle.std.specs.Prelude.{◌≡◌, ℕ, ◌+◌, ◌-◌, ◌<◌, List, [], ◌∷◌, ◌++◌, length, take, drop, replicate, Option, ◌⊎◌}
 use Rattle.std.specs.Iterator.{Drains, Yields}
-use Rattle.std.specs.List.{AllZip, fold, slice_range}
+use Rattle.std.specs.List.{AllZip, FoldsTo, fold, slice_range}
 use Rattle.allocator_api2.specs.declared.collections.TryReserveError.{TryReserveError}
 use Rattle.allocator_api2.specs.declared.collections.TryReserveErrorKind.TheVariants.{AllocError}
 use Rattle.aa_inline.specs.Inlined.{Inlined, in_place, with_written, with_room, LacksRoom}
@@ -32,6 +32,15 @@ module _ {T A : Type 0} where
     pub added : List T
     pub each : AllZip clones (replicate (k - 1) x) added
     pub put : new ≡ with_written old (old.items ++ (added ++ x ∷ [])) k
+
+  -- `new` is `old` with `k` results of the closure `f` appended, which was called once for each, in
+  -- order, and then is `g`
+  pub record AppendsResults {F : Type 0} (step : F → T → F → Type 0) (old : Inlined T A) (k : ℕ)
+      (f g : F) (new : Inlined T A) : Type 0 where
+    pub results : List T
+    pub calls : FoldsTo step f results g
+    pub count : length results ≡ k
+    pub put : new ≡ with_written old (old.items ++ results) k
 
   -- `new` is `old` with the first items of `n` appended, and not all of them
   pub record AppendsPart (old : Inlined T A) (n : ℕ) (new : Inlined T A) : Type 0 where

@@ -312,6 +312,28 @@ fn items_are_appended_and_repeats_removed(rt: HostRuntime) {
     assert!(rt; is_drained(&mut v) && v.spilled());
 }
 
+// Appends the numbers from 11 on, one for each call of a closure, or truncates.
+#[tactic(auto, using(allocator_api2::proofs::Callers::callers))]
+fn resize_with(v: &mut Small<'_>, len: usize) -> End {
+    let mut last = 10u64;
+    end_of(v.resize_with(len, || {
+        last = last.wrapping_add(1);
+        last
+    }))
+}
+
+#[test]
+fn results_are_appended_in_order(rt: HostRuntime) {
+    let heap = Faulty::new(rt.alloc());
+    let mut v = none(&heap);
+    assert!(rt; resize_with(&mut v, 3) == End::Done && has(&v, &[11, 12, 13]));
+    heap.fail_requests(0, 1);
+    assert!(rt; resize_with(&mut v, 5) == End::NoMemory(5) && has(&v, &[11, 12, 13]));
+    assert!(rt; !v.spilled() && resize_with(&mut v, 5) == End::Done);
+    assert!(rt; has(&v, &[11, 12, 13, 11, 12]) && heap.requests() == 2);
+    assert!(rt; resize_with(&mut v, 1) == End::Done && has(&v, &[11]));
+}
+
 // The bytes that are written to a vector of up to five inline.
 fn written(heap: &Faulty<Global>) -> Option<InlineVec<u8, &Faulty<Global>, 5>> {
     let mut bytes: InlineVec<u8, &Faulty<Global>, 5> = InlineVec::new_in(heap);

@@ -2,8 +2,9 @@
 ghost use Rattle.std.specs.Prelude.{◌≡◌, ◌+◌, ◌-◌, ◌<◌, ◌≤◌, ◌++◌, false, length, replicate, take, IfErr, IsOk, IsTrue, OnErr, OnOk};
 ghost use Rattle.std.specs.Mem.{type_size};
 ghost use Rattle.allocator_api2.specs.Clones.{ClonesAreEqual};
-ghost use Rattle.aa_inline.specs.Extending.{AppendFails, AppendsClones, AppendsCopies, AppendsPart, RolledBack};
-ghost use Rattle.aa_inline.specs.Inlined.{with_items, with_written, with_room, HasRoom};
+ghost use Rattle.allocator_api2.specs.Copies.{MayCallTimes};
+ghost use Rattle.aa_inline.specs.Extending.{AppendFails, AppendsClones, AppendsCopies, AppendsPart, AppendsResults, RolledBack};
+ghost use Rattle.aa_inline.specs.Inlined.{with_items, with_written, with_room, HasRoom, LacksRoom};
 
 use crate::inline::InlineVec;
 use allocator_api2::collections::{TryReserveError, TryReserveErrorKind};
@@ -96,4 +97,70 @@ impl<T: MadeWith<A> + Drop + Clone, A: Allocator + Copy, const N: usize> InlineV
         }
         true
     }
+}
+
+impl<T: MadeWith<A> + Drop, A: Allocator + Copy, const N: usize> InlineVec<T, A, N> {
+    /// Truncates the vector to `new_len` items, or appends results of `f` up to that length.
+    ///
+    /// `f` is called once for each new item, in order. Truncates as `truncate` does. Else allocates
+    /// as `reserve` does, once and before the first call of `f`.
+    ///
+    /// # Errors
+    /// `CapacityOverflow` or `AllocError`, as `reserve` returns them. The vector is unchanged, and
+    /// `f` is not called.
+    #[tactic(auto, using(crate::proofs::Results::resulting))]
+    pub fn resize_with<F: FnMut() -> T>(
+        &mut self,
+        new_len: usize,
+        mut f: F,
+    ) -> Result<(), TryReserveError>
+        requires { MayCallTimes (λ g. F.pre g) F.step (new_len - length self.old.items) f }
+
+        // The call succeeds if the new items fit, and always if it truncates.
+        ensures fits { HasRoom N self.old (new_len - length self.old.items) → IsOk result }
+        ensures truncated { new_len ≤ length self.old.items
+            → self.new ≡ with_items self.old (take new_len self.old.items) }
+        ensures shrink_succeeds { new_len ≤ length self.old.items → IsOk result }
+
+        // Success fills the new places.
+        ensures filled { let more = new_len - length self.old.items in
+            let roomy = with_room (type_size T.row) N self.old more in
+            OnOk result (length self.old.items < new_len
+            → (last : F) × AppendsResults F.step roomy more f last self.new) }
+
+        // An error changes nothing.
+        ensures error { IfErr result
+            (LacksRoom (type_size T.row) N self.old (new_len - length self.old.items)) }
+        ensures unchanged { OnErr result (self.new ≡ self.old) }
+    {
+        let len = self.len();
+        if len < new_len {
+            self.reserve(new_len - len)?;
+            self.push_results(new_len - len, &mut f);
+            return Ok(());
+        }
+        self.truncate(new_len);
+        Ok(())
+    }
+
+    // Appends `count` results of `f`, which must fit; `f` is called once for each.
+    #[tactic(auto, using(crate::proofs::Results::resulting))]
+    fn push_results<F: FnMut() -> T>(&mut self, count: usize, f: &mut F)
+        requires room { HasRoom N self.old count }
+        requires callable { MayCallTimes (λ g. F.pre g) F.step count f.old }
+        ensures { AppendsResults F.step self.old count f.old f.new self.new }
+    {
+        'call: for _done in 0..count {
+            self.put_last(result_of(f));
+        }
+    }
+}
+
+// Calls `f` and returns its result.
+#[inline(always)]
+fn result_of<T, F: FnMut() -> T>(f: &mut F) -> T
+    requires { F.pre f.old }
+    ensures { F.step f.old result f.new }
+{
+    f()
 }
