@@ -146,6 +146,13 @@ module _ {T A : Type 0} where
   with_places size N c s =
       if nat_le c N then back_in_place s else with_block size c s
 
+  -- `s` shrunk to `c` places of `size` bytes: inline if `N` are enough, else with its block, if it
+  -- has one, shrunk to these
+  unfoldable pub shrunk : (size N c : ℕ) → Inlined T A → Inlined T A
+  shrunk size N c s =
+      if nat_le c N then back_in_place s
+      else if s.spilled then with_less size c s else s
+
   -- the items of `s`, of `size` bytes each, as a boxed slice in a block of exactly these: its own,
   -- shrunk, or a new one
   abbrev pub boxed : (size : ℕ) → Inlined T A → Slice T A

@@ -334,6 +334,28 @@ fn results_are_appended_in_order(rt: HostRuntime) {
     assert!(rt; resize_with(&mut v, 1) == End::Done && has(&v, &[11]));
 }
 
+// Whether the vector has so much capacity after this call.
+fn shrinks(v: &mut Small<'_>, min_capacity: usize, capacity: usize) -> bool {
+    end_of(v.shrink_to(min_capacity)) == End::Done && v.capacity() == capacity
+}
+
+#[test]
+fn the_capacity_shrinks_to_a_lower_bound(rt: HostRuntime) {
+    let heap = Faulty::new(rt.alloc());
+    let mut v = none(&heap);
+    assert!(rt; takes(&mut v, 0..3) && shrinks(&mut v, 9, 3) && takes(&mut v, 3..5));
+    heap.fail_requests(0, 1);
+    assert!(rt; end_of(v.shrink_to(6)) == End::NoMemory(6) && v.capacity() == 8);
+    assert!(rt; has(&v, &[0, 1, 2, 3, 4]));
+    for (min_capacity, capacity) in [(9, 8), (6, 6), (7, 6), (0, 5)] {
+        assert!(rt; shrinks(&mut v, min_capacity, capacity));
+    }
+    v.truncate(2);
+    assert!(rt; shrinks(&mut v, 4, 4) && v.spilled());
+    assert!(rt; shrinks(&mut v, 3, 3) && !v.spilled() && has(&v, &[0, 1]));
+    assert!(rt; heap.outstanding() == 0);
+}
+
 // The bytes that are written to a vector of up to five inline.
 fn written(heap: &Faulty<Global>) -> Option<InlineVec<u8, &Faulty<Global>, 5>> {
     let mut bytes: InlineVec<u8, &Faulty<Global>, 5> = InlineVec::new_in(heap);

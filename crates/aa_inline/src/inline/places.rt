@@ -1,10 +1,12 @@
 //! Places for exactly so many items.
-ghost use Rattle.std.specs.Prelude.{◌≡◌, ◌<◌, ◌≤◌, [], length, IfErr, IfOk, IsOk, OnErr, OnOk};
+ghost use Rattle.std.specs.Prelude.{◌≡◌, ◌<◌, ◌≤◌, [], length, max, IfErr, IfOk, IsOk, OnErr, OnOk};
 ghost use Rattle.std.specs.Mem.{type_size};
 ghost use Rattle.allocator_api2.specs.Errors.{IsErrorFor};
 ghost use Rattle.allocator_api2.specs.Growths.{of_new};
+ghost use Rattle.allocator_api2.specs.Room.{NeedsNewBlock};
+ghost use Rattle.allocator_api2.specs.declared.collections.TryReserveErrorKind.TheVariants.{AllocError};
 ghost use Rattle.allocator_api2.specs.declared.raw_vec.Growth.TheVariants.{Doubling};
-ghost use Rattle.aa_inline.specs.Inlined.{back_in_place, block_of, in_new_block, in_place, resized, with_block, with_places};
+ghost use Rattle.aa_inline.specs.Inlined.{back_in_place, block_of, in_new_block, in_place, resized, shrunk, with_block, with_places};
 
 use crate::few::Few;
 use crate::inline::{Data, InlineVec};
@@ -117,6 +119,37 @@ impl<T: MadeWith<A> + Drop, A: Allocator + Copy, const N: usize> InlineVec<T, A,
         ensures unchanged { OnErr result (self.new ≡ self.old) }
     {
         self.grow(self.len())
+    }
+
+    /// Shrinks the capacity to `min_capacity`, or to the length if that is greater.
+    ///
+    /// If that is at most `N`, the items are stored inline, which does not allocate. Else does
+    /// nothing if the capacity is no greater, and otherwise allocates a block of exactly so many
+    /// places and deallocates the old one. Does not allocate for zero-sized items.
+    ///
+    /// # Errors
+    /// `AllocError` with the requested capacity if the allocation fails. The vector is unchanged.
+    #[tactic(auto, unfolding(crate::specs::Inlined::shrunk, crate::specs::Inlined::with_places), using(std::proofs::lemmas::Bool::Decides::nat_tests))]
+    pub fn shrink_to(&mut self, min_capacity: usize) -> Result<(), TryReserveError>
+        // If `N` places are enough, the call succeeds.
+        ensures fits { max (length self.old.items) min_capacity ≤ N → IsOk result }
+        ensures made { let n = max (length self.old.items) min_capacity in
+            OnOk result (self.new ≡ shrunk (type_size T.row) N n self.old) }
+
+        // Only an allocation can fail, and failure changes nothing.
+        ensures only_if_allocating { let n = max (length self.old.items) min_capacity in
+            OnErr result ((N < n) × NeedsNewBlock (type_size T.row) self.old.block n) }
+        ensures error { let n = max (length self.old.items) min_capacity in
+            IfErr result (λ e. e.kind ≡ AllocError n) }
+        ensures unchanged { OnErr result (self.new ≡ self.old) }
+    {
+        if self.len().max(min_capacity) <= N {
+            return self.grow(N);
+        }
+        match &mut self.data {
+            Data::InPlace(_, _) => return Ok(()),
+            Data::InBlock(heap) => heap.shrink_to(min_capacity),
+        }
     }
 }
 
