@@ -356,6 +356,23 @@ fn the_capacity_shrinks_to_a_lower_bound(rt: HostRuntime) {
     assert!(rt; heap.outstanding() == 0);
 }
 
+// A small vector in the block of a vector of two items.
+#[tactic(auto, using(allocator_api2::proofs::Callers::callers))]
+fn from_two<'a>(heap: &'a Faulty<Global>) -> Result<Small<'a>, TryReserveError> {
+    let mut items = Vec::with_capacity_in(2, heap)?;
+    items.extend_from_slice(&[8u64, 9])?;
+    Ok(InlineVec::from_vec(items))
+}
+
+#[test]
+fn a_vector_becomes_a_small_vector(rt: HostRuntime) {
+    let heap = Faulty::new(rt.alloc());
+    let mut v = from_two(&heap).unwrap_or(none(&heap));
+    assert!(rt; has(&v, &[8, 9]) && v.spilled() && v.capacity() == 2 && heap.requests() == 1);
+    assert!(rt; shrinks(&mut v, 2, 3) && !v.spilled() && has(&v, &[8, 9]));
+    assert!(rt; heap.outstanding() == 0);
+}
+
 // The bytes that are written to a vector of up to five inline.
 fn written(heap: &Faulty<Global>) -> Option<InlineVec<u8, &Faulty<Global>, 5>> {
     let mut bytes: InlineVec<u8, &Faulty<Global>, 5> = InlineVec::new_in(heap);

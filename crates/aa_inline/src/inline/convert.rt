@@ -3,13 +3,15 @@ ghost use Rattle.std.specs.Prelude.{◌≡◌, length, false, true, IfErr, IfOk,
 ghost use Rattle.std.specs.Mem.{type_size};
 ghost use Rattle.allocator_api2.specs.Errors.{IsErrorFor};
 ghost use Rattle.allocator_api2.specs.Slice.{new_slice};
-ghost use Rattle.aa_inline.specs.Inlined.{boxed};
+ghost use Rattle.allocator_api2.specs.declared.raw_vec.Growth.TheVariants.{Doubling};
+ghost use Rattle.aa_inline.specs.Inlined.{block_of, boxed};
 
 use crate::few::Few;
 use crate::inline::places::move_to_exact_block;
 use crate::inline::{Data, InlineVec};
 use allocator_api2::boxed::BoxedSlice;
 use allocator_api2::collections::{Refused, TryReserveError};
+use allocator_api2::vec::Vec;
 use std::alloc::Allocator;
 use std::default::MadeWith;
 
@@ -55,6 +57,20 @@ impl<T: MadeWith<A> + Drop, A: Allocator + Copy, const N: usize> InlineVec<T, A,
 }
 
 impl<T, A: Allocator, const N: usize> InlineVec<T, A, N> {
+    /// Converts `vec`, which must grow by doubling, into a small vector.
+    ///
+    /// The items remain in the block of `vec`, even if they would fit inline, until `grow`,
+    /// `shrink_to` or `shrink_to_fit` moves them. The capacity does not change, even if it is below
+    /// `N`. Does not allocate, and moves no item.
+    pub fn from_vec(vec: Vec<T, A>) -> Self
+        requires { vec.growth ≡ Doubling }
+        ensures { result ≡ block_of vec }
+    {
+        InlineVec {
+            data: Data::InBlock(vec),
+        }
+    }
+
     /// Returns the items as an array, if they are inline and as many as its length.
     ///
     /// Does not allocate.
