@@ -356,20 +356,22 @@ fn the_capacity_shrinks_to_a_lower_bound(rt: HostRuntime) {
     assert!(rt; heap.outstanding() == 0);
 }
 
-// A small vector in the block of a vector of two items.
-#[tactic(auto, using(allocator_api2::proofs::Callers::callers))]
-fn from_two<'a>(heap: &'a Faulty<Global>) -> Result<Small<'a>, TryReserveError> {
-    let mut items = Vec::with_capacity_in(2, heap)?;
-    items.extend_from_slice(&[8u64, 9])?;
-    Ok(InlineVec::from_vec(items))
+// A small vector in the block of the vector into which the items go.
+fn through_vec(v: Small<'_>) -> Option<Small<'_>> {
+    match v.into_vec() {
+        Ok(items) => Some(InlineVec::from_vec(items)),
+        Err(_) => None,
+    }
 }
 
 #[test]
 fn a_vector_becomes_a_small_vector(rt: HostRuntime) {
     let heap = Faulty::new(rt.alloc());
-    let mut v = from_two(&heap).unwrap_or(none(&heap));
-    assert!(rt; has(&v, &[8, 9]) && v.spilled() && v.capacity() == 2 && heap.requests() == 1);
-    assert!(rt; shrinks(&mut v, 2, 3) && !v.spilled() && has(&v, &[8, 9]));
+    let mut first = none(&heap);
+    assert!(rt; takes(&mut first, 8..10));
+    let mut v = through_vec(first).unwrap_or(none(&heap));
+    assert!(rt; has(&v, &[8, 9]) && v.spilled() && v.capacity() == 4 && heap.requests() == 1);
+    assert!(rt; shrinks(&mut v, 3, 3) && !v.spilled() && has(&v, &[8, 9]));
     assert!(rt; heap.outstanding() == 0);
 }
 
