@@ -130,6 +130,17 @@ def beside_std(begins, but=None):
     return [(f"times std's, for `{begins}`", f"{it:.2f}") for it in (min(found), max(found))]
 
 
+def nanoseconds(case, side):
+    """The time of a case at 100,000, as the table of cases has it."""
+    return f"ns of {side} for `{case}`", re.match(r"[\d.]+|-", cases()[case][4 + SIDES.index(side)]).group()
+
+
+def kept(case, side):
+    """The same where the heap's end is kept."""
+    row = re.search(rf"(?m)^\| `{case}` \| (?:[\d.-]+ \| ){{3}}([\d.-]+) \| ([\d.-]+) \| ([\d.-]+) \|$", text_of(TOP / "bench" / "README.md"))
+    return f"ns of {side} for `{case}` where the heap's end is kept", row.group(1 + SIDES.index(side)) if row else "none"
+
+
 def wrong_allocators():
     """The wrong allocators, those whose fault is named, the steps, and those at which the run stops."""
     text = text_of(TOP / "tests" / "wrong-allocators" / "lib.rt.txt")
@@ -196,7 +207,11 @@ def of_bench():
     yield "bench/README.md", "By instructions `lines` takes {} times the original's", [takes("lines", "original", "instructions")]
     yield "bench/README.md", "Its time is {} of the original's, and {} of std's.", [takes("rows", it) for it in ("original", "std")]
     yield "bench/README.md", "a table takes {} to {} times as long, but up to {} times in", [*beside_std("table", but="table_reserved"), beside_std("table_reserved")[1]]
+    yield "bench/README.md", "where the heap's end is kept it takes {} and std {} ns", [kept("table_reserved", it) for it in ("ours", "std")]
     yield "bench/README.md", "An ordered map takes {} to {} times as long", beside_std("map")
+    yield "bench/README.md", "a `push_in_place` takes {} ns over ours and {} over std", [nanoseconds("push_in_place", it) for it in ("ours", "std")]
+    yield "bench/README.md", "a `push` takes {}, and a `push_24` {} over ours and {} over std", [nanoseconds("push", "ours"), nanoseconds("push_24", "ours"), nanoseconds("push_24", "std")]
+    yield "bench/README.md", "these are {}, {} and {}", [kept("push", "ours"), kept("push_24", "ours"), kept("push_24", "std")]
     yield "bench/README.md", "`gap_typing` at 100,000 takes {} of the time", [takes("gap_typing", "original")]
     yield "bench/README.md", "over the original, and {} over std", [takes("gap_typing", "std")]
     yield "bench/README.md", "std takes {} of `pieces_of_4`", [taken("pieces_of_4", "std", "instructions")]
