@@ -74,6 +74,7 @@ impl Held {
             "ring_queue" => ring_push(&mut self.queue, 100),
             "slots_get" | "slots_churn" => {
                 fill_keys(&mut self.keys, count, 0);
+                self.issued.reserve_exact(self.keys.len());
                 for value in &self.keys {
                     self.issued.push(self.slots.insert(*value));
                 }
@@ -141,7 +142,9 @@ impl Held {
     }
 }
 
+// First reserves capacity for exactly these keys, so that no block is freed before the case runs.
 fn fill_keys(keys: &mut Vec<u64>, count: u32, least: u64) {
+    keys.reserve_exact(count as usize);
     let mut state: u32 = 1;
     for _ in 0..count {
         state = state.wrapping_mul(1_664_525).wrapping_add(1_013_904_223);

@@ -98,6 +98,9 @@ impl Held {
     }
 
     fn fill_slots(&mut self) -> bool {
+        if self.issued.reserve_exact(self.keys.len()).is_err() {
+            return false;
+        }
         for value in self.keys.as_slice() {
             let Ok(key) = self.slots.insert(*value) else {
                 return false;
@@ -177,8 +180,11 @@ impl Held {
 }
 
 // Appends `count` distinct keys in no regular order: `least` or more, and less than 2 ^ 32 above
-// it.
+// it. First reserves capacity for exactly these, so that no block is freed before the case runs.
 fn fill_keys(keys: &mut Vec<u64>, count: u32, least: u64) -> bool {
+    if keys.reserve_exact(count as usize).is_err() {
+        return false;
+    }
     let mut state: u32 = 1;
     for _ in 0..count {
         state = state.wrapping_mul(1_664_525).wrapping_add(1_013_904_223);
