@@ -45,6 +45,7 @@ use Rattle.allocator_api2.specs.contracts.vec.Vec as vec
 use Rattle.allocator_api2.proofs.vec.Vec.TheLaws as vec_laws
 use Rattle.aa_raw.proofs.raw_vec.RawVec.TheLaws as block_laws
 use Rattle.aa_raw.specs.Block.{with_places}
+use Rattle.aa_raw.proofs.Entries.{length-with_values}
 use Rattle.aa_raw.specs.Entries.{Entry, values_of, with_values}
 use Rattle.aa_raw.specs.EntriesLends as block_lends
 use Rattle.aa_raw.specs.contracts.raw_vec.RawVec as block
@@ -113,14 +114,14 @@ module _ (Y Z X : RattleType) (g : alloc.Ghosts Z.Denot) where
 
   -- the map `d` with the values of `u`
   abbrev pub following : D → D → D
-  following d u = record { slots = with_values_of d.slots u.slots; capacity = d.capacity; resizes = d.resizes; issued = d.issued }
+  following d u = record { slots = with_values_of d.slots u.slots; capacity = d.capacity; growth = d.growth; resizes = d.resizes; issued = d.issued }
 
   -- a map that has the slots of `d`, with the values of its own value
   abbrev pub Followed : D → SemTy
   Followed d = record { rep = D; coded = Mp.coded; size = 0; own_at = λ u bl o. (mem Mp).own_at (following d u) bl o }
 
   itself : (d : D) → following d d ≡ d
-  itself d = ap (λ ss. record { slots = ss; capacity = d.capacity; resizes = d.resizes; issued = d.issued }) (same d.slots)
+  itself d = ap (λ ss. record { slots = ss; capacity = d.capacity; growth = d.growth; resizes = d.resizes; issued = d.issued }) (same d.slots)
 
   module _ (LY : Laws Y) (LZ : Laws Z) (LX : Laws X) {M : Type 1} {𝓤 : Ura M} (𝓛 : Logic 𝓤) (rb ro : ℕ) where
     open 𝓛 use {A as tokens}
@@ -152,11 +153,11 @@ module _ (Y Z X : RattleType) (g : alloc.Ghosts Z.Denot) where
         written ws = with_places a.values (with_values a.values.places ws)
 
         abbrev pub next : List Y.Denot → D
-        next ws = record { slots = seen (states_of a.slots) (with_values a.values.places ws); capacity = capacity_of a.slots; resizes = blocks_of a.slots; issued = a.issued }
+        next ws = record { slots = seen (states_of a.slots) (with_values a.values.places ws); capacity = capacity_of a.slots; growth = a.values.growth; resizes = blocks_of a.slots; issued = a.issued }
 
         fixed : (ws : List Y.Denot) → following d (next ws) ≡ next ws
-        fixed ws = ap (λ (z : D). record { slots = with_values_of z.slots (next ws).slots; capacity = z.capacity; resizes = z.resizes; issued = z.issued }) (sym viewed.0)
-            ∙ ap (λ ss. record { slots = ss; capacity = capacity_of a.slots; resizes = blocks_of a.slots; issued = a.issued }) (read (states_of a.slots) a.values.places ws)
+        fixed ws = ap (λ (z : D). record { slots = with_values_of z.slots (next ws).slots; capacity = z.capacity; growth = z.growth; resizes = z.resizes; issued = z.issued }) (sym viewed.0)
+            ∙ ap (λ ss. record { slots = ss; capacity = capacity_of a.slots; growth = a.values.growth; resizes = blocks_of a.slots; issued = a.issued }) (read (states_of a.slots) a.values.places ws)
 
         abbrev pub Whole : SemTy
         Whole = Followed d
@@ -168,7 +169,7 @@ module _ (Y Z X : RattleType) (g : alloc.Ghosts Z.Denot) where
             qed 𝓛 (‵ (part_at Bk full_share (written ws) rb (ro + block_at)) ∷ ‵ (fsep Index Others) ∷ raw Gaps ∷ []) ∵
             use3 𝓛 (‵ (part_at In full_share n rb ro)) (field_back 𝓛 full_share [] ms (written ws, (a.slots, (a.free, (a.issued, (a.moves, (a.kind, tt)))))) rb ro 0) $
             use1 𝓛 (‵ ((mem Mp).own_at (next ws) rb ro)) (Plain-in Mp In (map_laws.the_opens V A C g) 𝓛 full_share (next ws) n
-            (view_made In D Mp.coded (view Y.Denot Z.Denot X.Denot g) (invariant Y.Denot Z.Denot X.Denot g) 𝓛 (next ws) n (refl, (stays-lent viewed.1.0 ws, record { moved = viewed.1.1.moved; once = viewed.1.1.once }))) rb ro) $
+            (view_made In D Mp.coded (view Y.Denot Z.Denot X.Denot g) (invariant Y.Denot Z.Denot X.Denot g) 𝓛 (next ws) n (refl, (stays-lent viewed.1.0 ws, record { moved = viewed.1.1.moved; each = rw (length-with_values a.values.places ws) viewed.1.1.each; once = viewed.1.1.once }))) rb ro) $
             rewrite ! 0 (λ (u : D). ‵ ((mem Mp).own_at u rb ro)) (sym (fixed ws)) refl $ done !
 
         module _ (κ : Lft) (δ tie₀ tie : GName) (u : Gv) where

@@ -4,6 +4,7 @@ pub mod Common
 pub mod Draining
 pub mod Passing
 pub mod Finds
+pub mod Growing
 pub mod Iterating
 pub mod Remaining
 pub mod Retaining

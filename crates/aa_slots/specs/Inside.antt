@@ -1,9 +1,10 @@
 -- The invariant of the fields of a slot map, and their view.
-use Rattle.std.specs.Prelude.{◌≡◌, ℕ, ◌+◌, ◌-◌, ◌/◌, ◌%◌, ◌^◌, ◌<◌, ◌≤◌, ◌==◌, Bool, true, false, ⊤, List, [], ◌∷◌, length, take, drop, Option, None, Some, min, nat_eq, slice_get, slice_index_or, get_or, if◌then◌else◌}
+use Rattle.std.specs.Prelude.{◌≡◌, ℕ, ◌+◌, ◌-◌, ◌/◌, ◌%◌, ◌^◌, ◌<◌, ◌≤◌, ◌==◌, ◌≢◌, Bool, true, false, ⊤, List, [], ◌∷◌, length, take, drop, Option, None, Some, min, nat_eq, slice_get, slice_index_or, get_or, if◌then◌else◌}
 use Rattle.std.specs.List.{IsDistinct}
 use Rattle.allocator_api2.specs.Block.{Block}
 use Rattle.allocator_api2.specs.Places.{IsFilled}
 use Rattle.allocator_api2.specs.Vector.{Vector}
+use Rattle.allocator_api2.specs.declared.raw_vec.Growth.TheVariants.{InPlace}
 use Rattle.aa_slots.specs.declared.key.KeyData.{KeyData}
 use Rattle.aa_slots.specs.declared.slots.Chain.{Chain}
 use Rattle.aa_slots.specs.declared.slots.State.{State}
@@ -52,6 +53,10 @@ capacity_of (Some v) = v.capacity
 abbrev pub blocks_of : {A : Type 0} → Option (Vector State A) → ℕ
 blocks_of None = 0
 blocks_of (Some v) = v.grown.blocks
+
+-- how many growths the block of the values with `n` places may be ahead of that of `c` slots
+abbrev pub ahead : (c n : ℕ) → ℕ
+ahead c n = if c == n then 0 else 1
 
 -- the slots from index `from` on and before `end` are free
 abbrev pub AreFree : List State → (from end : ℕ) → Type 0
@@ -116,20 +121,23 @@ module _ {T : Type 0} where
     pub within : length ss ≤ capacity
     pub room : capacity ≤ length cs
 
-  -- the values moved `moves` times to a new block, as often as the slots, and their block did not
-  -- grow since
+  -- the map grew or shrank `moves` times, as often as the block of the slots; that of the values
+  -- cost no more blocks, but for one if it has more places; unless the policy is `InPlace`, it did
+  -- not grow since it was made
   pub record MoveTogether {A : Type 0} (slots : Option (Vector State A)) (values : Block (⊤ × T) A)
       (moves : ℕ) : Type 0 where
     pub moved : moves ≡ blocks_of slots
-    pub once : values.grown.blocks ≤ min 1 (capacity_of slots)
+    pub each : values.grown.blocks ≤ moves + ahead (capacity_of slots) (length values.places)
+    pub once : values.growth ≢ InPlace → values.grown.blocks ≤ min 1 (capacity_of slots)
 
-  -- the view of slots and places, after `issued` keys were issued
-  abbrev pub view_of : {A : Type 0} → Option (Vector State A) → List (Option (⊤ × T))
+  -- the view of slots and the block of their values, after `issued` keys were issued
+  abbrev pub view_of : {A : Type 0} → Option (Vector State A) → Block (⊤ × T) A
       → (issued : ℕ) → Slotted T
-  view_of slots cs issued =
+  view_of slots values issued =
       record {
-        slots = seen (states_of slots) cs;
+        slots = seen (states_of slots) values.places;
         capacity = capacity_of slots;
+        growth = values.growth;
         resizes = blocks_of slots;
         issued = issued;
       }

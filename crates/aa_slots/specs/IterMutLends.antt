@@ -29,6 +29,7 @@ lends_values T A K g m n =
     (λ u. record {
       slots = with_values_of m.now.slots u.slots;
       capacity = m.now.capacity;
+      growth = m.now.growth;
       resizes = m.now.resizes;
       issued = m.now.issued;
     })

@@ -1,21 +1,30 @@
 -- The view of a slot map.
-use Rattle.std.specs.Prelude.{◌≡◌, ℕ, zero, suc, ◌+◌, ◌-◌, ◌≤◌, ◌&&◌, ◌==◌, Bool, max, List, [], ◌∷◌, length, count_by, is_some, Option, None, Some, nat_eq, nat_le, if◌then◌else◌, slice_index_or, slice_set}
+use Rattle.std.specs.Prelude.{◌≡◌, ℕ, zero, suc, ◌+◌, ◌-◌, ◌/◌, ◌≤◌, ◌&&◌, ◌==◌, Bool, max, List, [], ◌∷◌, length, count_by, is_some, Option, None, Some, nat_eq, nat_le, if◌then◌else◌, slice_index_or, slice_set}
 use Rattle.std.specs.Cmp.Lexicographic.{pointwise}
 use Rattle.std.specs.List.{AllZip}
+use Rattle.allocator_api2.specs.declared.raw_vec.Growth.{Growth}
+use Rattle.allocator_api2.specs.declared.raw_vec.Growth.TheVariants.{Doubling, Sparing, InPlace}
 use Rattle.aa_slots.specs.declared.key.KeyData.{KeyData}
 
 -- the view of a slot map: its slots, each free or with the serial of a key and its value; the
--- number of values that it can hold without another allocation; the number of times that it moved
--- to new blocks; and the number of keys issued
+-- number of values that it can hold without another allocation; its growth policy; the number of
+-- times that it moved to new blocks, or grew its own; and the number of keys issued
 pub record Slotted (T : Type 0) : Type 0 where
   pub slots : List (Option (ℕ × T))
   pub capacity : ℕ
+  pub growth : Growth
   pub resizes : ℕ  -- each time to two: of the slots and of the values
   pub issued : ℕ
 
--- the capacity of a map of `c` slots, all full, after it has grown
-abbrev pub grown : (c : ℕ) → ℕ
-grown c = c + max c 4
+-- the number of slots that the policy `g` adds to `c` full ones, if these are enough
+abbrev pub added_by : (g : Growth) → (c : ℕ) → ℕ
+added_by Doubling c = c
+added_by Sparing c = c - c / 2
+added_by InPlace c = c
+
+-- the capacity of a map of `c` slots, all full, after it has grown by the policy `g`
+abbrev pub grown : (g : Growth) → (c : ℕ) → ℕ
+grown g c = c + max (added_by g c) 4
 
 -- the number of resizes of a new map with the capacity `c`
 abbrev pub fresh_resizes : (c : ℕ) → ℕ
@@ -66,7 +75,7 @@ module _ {T : Type 0} where
   HasRoom m k = k ≤ m.capacity - count m.slots
 
   -- the map `m` after it reserved `k` more values: exactly these, if its capacity was insufficient,
-  -- and then in new blocks
+  -- and then both its blocks grew
   abbrev pub with_room : Slotted T → (k : ℕ) → Slotted T
   with_room m k =
       record m {
@@ -109,10 +118,12 @@ module _ {T : Type 0} where
   IsClonedSlot clones (Some e) copy = (x : T) × (copy ≡ Some (e.0, x)) × clones e.1 x
 
   -- the map `copy` has a clone of each value of `m`, in the same slot for the same key; it has the
-  -- blocks of a new map with capacity for exactly these slots, and has issued as many keys
+  -- growth policy of `m`, the blocks of a new map with capacity for exactly these slots, and has
+  -- issued as many keys
   pub record IsClonedMap (clones : T → T → Type 0) (m copy : Slotted T) : Type 0 where
     pub each : AllZip (IsClonedSlot clones) m.slots copy.slots
     pub capacity : copy.capacity ≡ length m.slots
+    pub growth : copy.growth ≡ m.growth
     pub resizes : copy.resizes ≡ fresh_resizes (length m.slots)
     pub issued : copy.issued ≡ m.issued
 

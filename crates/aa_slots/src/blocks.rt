@@ -1,16 +1,17 @@
 //! Growing, copying and dropping the two blocks of a slot map.
-ghost use Rattle.std.specs.Prelude.{◌≡◌, ◌<◌, ◌≤◌, ◌+◌, [], length, min, Some, IfErr, IfOk, OnErr, OnOk, IsOk, IsTrue};
+ghost use Rattle.std.specs.Prelude.{◌≡◌, ◌≢◌, ◌<◌, ◌≤◌, ◌+◌, [], length, min, Some, IfErr, IfOk, OnErr, OnOk, IsOk, IsTrue};
 ghost use Rattle.std.specs.Mem.{type_size};
 ghost use Rattle.allocator_api2.specs.Errors.{ClonesFail, IsErrorFor};
-ghost use Rattle.allocator_api2.specs.Places.{AreEmpty};
-ghost use Rattle.aa_slots.specs.Inside.{blocks_of, capacity_of, seen, states_of, AreClones, AreHeld, AreHeldBetween, MoveTogether};
-ghost use Rattle.aa_slots.specs.Slotted.{fresh_resizes, shrunk_resizes};
+ghost use Rattle.allocator_api2.specs.Places.{AreEmpty, IsRun};
+ghost use Rattle.aa_slots.specs.Inside.{ahead, blocks_of, capacity_of, seen, states_of, AreClones, AreHeld, AreHeldBetween, MoveTogether};
+ghost use Rattle.aa_slots.specs.Slotted.{added_by, count, fresh_resizes, shrunk_resizes};
 ghost use Rattle.allocator_api2.specs.declared.collections.TryReserveErrorKind.TheVariants.{AllocError};
+ghost use Rattle.allocator_api2.specs.declared.raw_vec.Growth.TheVariants.{InPlace};
 
-use crate::slots::{Slot, State, slots_in};
+use crate::slots::{Slot, State, capacity_in, slots_in};
 use allocator_api2::collections::{TryReserveError, TryReserveErrorKind};
 use allocator_api2::counter::Counter;
-use allocator_api2::raw_vec::RawVec;
+use allocator_api2::raw_vec::{Growth, RawVec};
 use allocator_api2::vec::Vec;
 use std::alloc::Allocator;
 
@@ -19,6 +20,16 @@ pub fn alloc_error(capacity: usize) -> TryReserveError
     ensures { result.kind ≡ AllocError capacity }
 {
     TryReserveErrorKind::AllocError { capacity }.into()
+}
+
+/// Returns the number of slots that the policy adds to `capacity` full ones, if these are enough.
+pub fn added_by(growth: Growth, capacity: usize) -> usize
+    ensures { result ≡ added_by growth capacity }
+{
+    match growth {
+        Growth::Doubling | Growth::InPlace => capacity,
+        Growth::Sparing => capacity - capacity / 2,
+    }
 }
 
 /// Drops the values of the slots from `from` on and before `end`, one by one.
@@ -32,6 +43,7 @@ pub fn drop_between<T: Drop, A: Allocator>(
     requires held { AreHeldBetween slots.now values.old.places from end }
     ensures places { length values.new.places ≡ length values.old.places }
     ensures counts { values.new.grown ≡ values.old.grown }
+    ensures growth { values.new.growth ≡ values.old.growth }
 {
     'each: for index in from..end {
         if let State::Held(_) = slots[index].state() {
@@ -52,6 +64,7 @@ fn move_all<T, A: Allocator>(
     ensures moved { seen slots.now to.new.places ≡ seen slots.now from.old.places }
     ensures room { length to.new.places ≡ length to.old.places }
     ensures counts { to.new.grown ≡ to.old.grown }
+    ensures growth { to.new.growth ≡ to.old.growth }
 {
     'each: for index in 0..slots.len() {
         if let State::Held(_) = slots[index].state() {
@@ -87,6 +100,7 @@ fn move_to<T, A: Allocator>(
     ensures moved { seen slots.now values.new.places ≡ seen slots.now values.old.places }
     ensures room { length values.new.places ≡ length fresh.places }
     ensures counts { values.new.grown ≡ fresh.grown }
+    ensures growth { values.new.growth ≡ fresh.growth }
     ensures counted { moves.new.count ≡ moves.old.count + fresh_resizes capacity }
 {
     move_all(slots, values, &mut fresh);
@@ -95,32 +109,36 @@ fn move_to<T, A: Allocator>(
     count_move(moves, capacity);
 }
 
-// Returns a block with capacity for `capacity` elements, allocated by a clone of `alloc`.
+// Returns a block with capacity for `capacity` elements, over a clone of the allocator of `like`,
+// and with its growth policy.
 //
 // An `AllocError` has the number `capacity`.
 #[tactic(auto, using(allocator_api2::proofs::Blocks::emptied))]
 fn block_for<E, A: Allocator + Clone>(
-    alloc: &A,
+    like: &RawVec<E, A>,
     capacity: usize,
 ) -> Result<RawVec<E, A>, TryReserveError>
     ensures room { IfOk result (λ b. capacity ≤ length b.places) }
     ensures empty { IfOk result (λ b. AreEmpty b.places) }
     ensures once { IfOk result (λ b. b.grown.blocks ≤ min 1 capacity) }
-    ensures fits { A.is_infallible alloc.now → capacity ≡ 0 → IsOk result }
+    ensures growth { IfOk result (λ b. b.growth ≡ like.now.growth) }
+    ensures fits { A.is_infallible like.now.alloc → capacity ≡ 0 → IsOk result }
     ensures error { IfErr result
-        (ClonesFail (A.is_infallible alloc.now) capacity (type_size E.row)) }
+        (ClonesFail (A.is_infallible like.now.alloc) capacity (type_size E.row)) }
 {
-    let Ok(own) = alloc.clone() else {
+    let Ok(own) = like.allocator().clone() else {
         return Err(alloc_error(capacity));
     };
-    let made = RawVec::with_capacity_in(capacity, own)?;
+    let made = RawVec::with_capacity_and_growth_in(capacity, like.growth(), own)?;
     made.prove_capacity_bounds();
     Ok(made)
 }
 
-// Reserves exactly `capacity` slots, more than there is memory for.
+// Reserves exactly `capacity` slots, more than there is memory for. The first ones are in a vector
+// with this growth policy.
 fn reserve_slots<A: Allocator + Clone>(
     slots: &mut Option<Vec<Slot, A>>,
+    growth: Growth,
     alloc: &A,
     capacity: usize,
 ) -> Result<(), TryReserveError>
@@ -138,7 +156,9 @@ fn reserve_slots<A: Allocator + Clone>(
             let Ok(own) = alloc.clone() else {
                 return Err(alloc_error(capacity));
             };
-            *slots = Some(Vec::with_capacity_in(capacity, own)?);
+            let mut made = Vec::with_growth_in(growth, own);
+            made.try_reserve_exact(capacity)?;
+            *slots = Some(made);
             Ok(())
         }
     }
@@ -146,21 +166,25 @@ fn reserve_slots<A: Allocator + Clone>(
 
 /// Reserves memory for exactly `capacity` slots with their values, more than there is memory for.
 ///
-/// Moves both to new blocks, and counts this as one of `moves`.
+/// Moves both to new blocks, or grows their own by the policy `InPlace`, if no slot is free. Counts
+/// this as one of `moves`.
 ///
 /// # Errors
 /// `CapacityOverflow` if the bytes exceed `isize::MAX`; `AllocError` with the number `capacity`.
-/// Both blocks are unchanged.
+/// Both blocks are unchanged, but that of the values may be larger by the policy `InPlace`.
 #[cold]
 #[inline(never)]
-#[tactic(auto, using(allocator_api2::proofs::Blocks::emptied))]
+#[tactic(auto, using(allocator_api2::proofs::Blocks::emptied, crate::proofs::Growing::full))]
 pub fn reserve<T, A: Allocator + Clone>(
     slots: &mut Option<Vec<Slot, A>>,
     values: &mut RawVec<((), T), A>,
+    free: usize,
     capacity: usize,
     moves: &mut Counter,
 ) -> Result<(), TryReserveError>
     requires held { AreHeld (states_of slots.old) values.old.places }
+    requires counted { free + count (seen (states_of slots.old) values.old.places)
+        ≡ length (states_of slots.old) }
     requires within { length (states_of slots.old) ≤ capacity_of slots.old }
     requires places { capacity_of slots.old ≤ length values.old.places }
     requires together { MoveTogether slots.old values.old moves.old.count }
@@ -172,18 +196,84 @@ pub fn reserve<T, A: Allocator + Clone>(
     ensures values { seen (states_of slots.new) values.new.places
         ≡ seen (states_of slots.old) values.old.places }
 
-    // There is memory for more slots on success, in new blocks, and as before on an error.
+    // There is memory for more slots on success, and as before on an error.
     ensures places { capacity_of slots.new ≤ length values.new.places }
+    ensures growth { values.new.growth ≡ values.old.growth }
     ensures together { MoveTogether slots.new values.new moves.new.count }
     ensures capacity { OnOk result (capacity_of slots.new ≡ capacity) }
     ensures counted { OnOk result (blocks_of slots.new ≡ blocks_of slots.old + 1) }
     ensures error { IfErr result (λ e. IsErrorFor e capacity) }
     ensures unchanged { OnErr result (slots.new ≡ slots.old) }
-    ensures kept { OnErr result (values.new ≡ values.old) }
+    ensures kept { OnErr result (values.old.growth ≢ InPlace → values.new ≡ values.old) }
 {
-    let fresh = block_for(values.allocator(), capacity)?;
-    reserve_slots(slots, values.allocator(), capacity)?;
+    if free == 0 && may_extend(slots, values, capacity) {
+        return extend(slots, values, capacity, moves);
+    }
+    let fresh = block_for(values, capacity)?;
+    reserve_slots(slots, values.growth(), values.allocator(), capacity)?;
     move_to(slots_in(slots), values, fresh, capacity, moves);
+    Ok(())
+}
+
+// Returns `true` if the policy is `InPlace`, and the block of the values has as many places as that
+// of the slots, or as many as these need.
+fn may_extend<T, A: Allocator>(
+    slots: &Option<Vec<Slot, A>>,
+    values: &RawVec<((), T), A>,
+    capacity: usize,
+) -> bool
+    ensures growth { IsTrue result → values.now.growth ≡ InPlace }
+    ensures same_capacity { IsTrue result → length values.now.places < capacity
+        → capacity_of slots.now ≡ length values.now.places }
+{
+    match values.growth() {
+        Growth::InPlace => {
+            capacity <= values.capacity() || capacity_in(slots) == values.capacity()
+        }
+        _ => false,
+    }
+}
+
+// Grows both blocks to `capacity`, each as its policy says. All slots have values.
+#[tactic(auto, using(allocator_api2::proofs::Blocks::with_room, crate::proofs::Growing::same))]
+fn extend<T, A: Allocator + Clone>(
+    slots: &mut Option<Vec<Slot, A>>,
+    values: &mut RawVec<((), T), A>,
+    capacity: usize,
+    moves: &mut Counter,
+) -> Result<(), TryReserveError>
+    requires full { IsRun values.old.places 0 (length (states_of slots.old)) }
+    requires held { AreHeld (states_of slots.old) values.old.places }
+    requires within { length (states_of slots.old) ≤ capacity_of slots.old }
+    requires places { capacity_of slots.old ≤ length values.old.places }
+    requires together { moves.old.count ≡ blocks_of slots.old }
+    requires bound { values.old.grown.blocks
+        ≤ moves.old.count + ahead (capacity_of slots.old) (length values.old.places) }
+    requires same_capacity { length values.old.places < capacity
+        → capacity_of slots.old ≡ length values.old.places }
+    requires more { capacity_of slots.old < capacity }
+
+    // The slots and their values are unchanged, each value in its place.
+    ensures slots { states_of slots.new ≡ states_of slots.old }
+    ensures held { AreHeld (states_of slots.new) values.new.places }
+    ensures values { seen (states_of slots.new) values.new.places
+        ≡ seen (states_of slots.old) values.old.places }
+
+    // There is memory for more slots on success, and for as many as before on an error.
+    ensures places { capacity_of slots.new ≤ length values.new.places }
+    ensures growth { values.new.growth ≡ values.old.growth }
+    ensures together { moves.new.count ≡ blocks_of slots.new }
+    ensures bound { values.new.grown.blocks
+        ≤ moves.new.count + ahead (capacity_of slots.new) (length values.new.places) }
+    ensures capacity { OnOk result (capacity_of slots.new ≡ capacity) }
+    ensures counted { OnOk result (blocks_of slots.new ≡ blocks_of slots.old + 1) }
+    ensures error { IfErr result (λ e. IsErrorFor e capacity) }
+    ensures unchanged { OnErr result (slots.new ≡ slots.old) }
+{
+    let len = slots_in(slots).len();
+    values.try_reserve_exact(len, capacity - len)?;
+    reserve_slots(slots, values.growth(), values.allocator(), capacity)?;
+    moves.add(1);
     Ok(())
 }
 
@@ -213,6 +303,7 @@ pub fn shrink<T, A: Allocator + Clone>(
 
     // There is memory for these slots on success, and as before on an error.
     ensures places { slots.new.capacity ≤ length values.new.places }
+    ensures growth { values.new.growth ≡ values.old.growth }
     ensures together { MoveTogether (Some slots.new) values.new moves.new.count }
     ensures capacity { OnOk result (slots.new.capacity ≡ length slots.old.items) }
     ensures counted { OnOk result (slots.new.grown.blocks ≡ shrunk_resizes
@@ -226,7 +317,7 @@ pub fn shrink<T, A: Allocator + Clone>(
     if len == slots.capacity() {
         return Ok(());
     }
-    let fresh = block_for(values.allocator(), len)?;
+    let fresh = block_for(values, len)?;
     slots.shrink_to_fit()?;
     move_to(slots.as_slice(), values, fresh, len, moves);
     Ok(())
@@ -263,6 +354,7 @@ fn put_clones<T: Clone + Drop, A: Allocator>(
     ensures made { IsTrue result → AreClones T.is_clone slots.now from.now.places to.new.places }
     ensures room { length to.new.places ≡ length to.old.places }
     ensures counts { to.new.grown ≡ to.old.grown }
+    ensures growth { to.new.growth ≡ to.old.growth }
     ensures fits { slots.now ≡ [] → IsTrue result }
 {
     'each: for index in 0..slots.len() {
@@ -290,10 +382,11 @@ pub fn clone_values<T: Clone + Drop, A: Allocator + Clone>(
         (λ copy. AreClones T.is_clone slots.now values.now.places copy.places) }
     ensures room { IfOk result (λ copy. length slots.now ≤ length copy.places) }
     ensures once { IfOk result (λ copy. copy.grown.blocks ≤ min 1 (length slots.now)) }
+    ensures growth { IfOk result (λ copy. copy.growth ≡ values.now.growth) }
     ensures fits { ((a : A) → A.is_infallible a) → slots.now ≡ [] → IsOk result }
     ensures error { IfErr result (λ e. IsErrorFor e (length slots.now)) }
 {
-    let mut copy = block_for(values.allocator(), slots.len())?;
+    let mut copy = block_for(values, slots.len())?;
     if put_clones(slots, values, &mut copy) {
         Ok(copy)
     } else {

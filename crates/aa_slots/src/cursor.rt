@@ -30,6 +30,7 @@ impl<T: Drop, A: Allocator, K> SlotMap<T, A, K> {
         T: Copy,
         ensures entries { entries self.new ≡ map (λ e. (e.0, value)) (entries self.old) }
         ensures capacity { self.new.capacity ≡ self.old.capacity }
+        ensures growth { self.new.growth ≡ self.old.growth }
         ensures resizes { self.new.resizes ≡ self.old.resizes }
         ensures issued { self.new.issued ≡ self.old.issued }
     {

@@ -7,13 +7,13 @@ ghost use Rattle.aa_slots.specs.Iterating.{YieldsPairsInOrder, YieldsPairsInReve
 ghost use Rattle.aa_slots.specs.Slotted.{cleared, count, entries, entries_from, find, grown, with_room, without, HasRoom, Puts};
 ghost use Rattle.aa_slots.specs.declared.key.KeyData.{KeyData};
 
-use crate::blocks::drop_between;
+use crate::blocks::{added_by, drop_between};
 use crate::iter::{Iter, Keys, Values};
 pub use crate::key::{Key, KeyData};
 use crate::slots::{Chain, Slot, first_held, is_held_at, put, release, slots_in};
 use allocator_api2::collections::{Refused, TryReserveError, TryReserveErrorKind};
 use allocator_api2::counter::Counter;
-use allocator_api2::raw_vec::RawVec;
+use allocator_api2::raw_vec::{Growth, RawVec};
 use allocator_api2::vec::Vec;
 use std::alloc::{Allocator, Global};
 use std::marker::{Model, PhantomData};
@@ -33,8 +33,9 @@ mod traits;
 
 /// A slot map: it returns a key for each value inserted, which finds the value until it is removed.
 ///
-/// A contract sees a map as its slots, its capacity, how often it moved to new blocks, and the
-/// number of keys issued. A slot is free, or has a value and the serial of its key.
+/// A contract sees a map as its slots, its capacity, its growth policy, how often it moved to new
+/// blocks or grew its own, and the number of keys issued. A slot is free, or has a value and the
+/// serial of its key.
 ///
 /// `K` is the kind of its keys, any type: a map takes no keys of another kind, so that the keys of
 /// two maps with different kinds can't be confused. Use a key only with the map that returned it:
@@ -46,7 +47,7 @@ pub struct SlotMap<T, A: Allocator = Global, K = ()> {
     slots: Option<Vec<Slot, A>>,
     free: Chain,
     issued: u64,
-    // how often the values moved to a new block
+    // how often the values moved to a new block, or theirs grew
     moves: Counter,
     kind: PhantomData<K>,
 }
@@ -58,7 +59,7 @@ impl<T, A: Allocator, K> Model for SlotMap<T, A, K> {
 
     ghost use Rattle.aa_slots.specs.Inside.{capacity_of, states_of, view_of, IsSound, MoveTogether};
 
-    ghost view = { λ m. view_of m.slots m.values.places m.issued };
+    ghost view = { λ m. view_of m.slots m.values m.issued };
 
     ghost invariant = { λ m.
         IsSound (states_of m.slots) m.values.places m.free (capacity_of m.slots)
@@ -85,22 +86,40 @@ impl<T: Drop, A: Allocator, K> Drop for SlotMap<T, A, K> {
 }
 
 impl<T, A: Allocator> SlotMap<T, A> {
+    ghost use Rattle.allocator_api2.specs.declared.raw_vec.Growth.TheVariants.{Doubling};
+
     /// Returns an empty map that has issued no keys.
     ///
     /// Does not allocate.
     pub fn new_in(alloc: A) -> Self
         ensures slots { result.slots ≡ [] }
         ensures capacity { result.capacity ≡ 0 }
+        ensures growth { result.growth ≡ Doubling }
         ensures resizes { result.resizes ≡ 0 }
         ensures issued { result.issued ≡ 0 }
     {
         SlotMap::with_key_in(alloc)
+    }
+
+    /// Returns an empty map with the growth policy `growth`, that has issued no keys.
+    ///
+    /// Does not allocate. By the policy `InPlace`, both blocks of a full map grow in place, if its
+    /// allocator can.
+    pub fn with_growth_in(growth: Growth, alloc: A) -> Self
+        ensures slots { result.slots ≡ [] }
+        ensures capacity { result.capacity ≡ 0 }
+        ensures growth { result.growth ≡ growth }
+        ensures resizes { result.resizes ≡ 0 }
+        ensures issued { result.issued ≡ 0 }
+    {
+        SlotMap::with_growth_and_key_in(growth, alloc)
     }
 }
 
 #[tactic(auto, using(crate::proofs::Finds::finds))]
 impl<T, A: Allocator, K> SlotMap<T, A, K> {
     ghost use Rattle.aa_slots.specs.Lends.{lends_value};
+    ghost use Rattle.allocator_api2.specs.declared.raw_vec.Growth.TheVariants.{Doubling};
 
     /// Returns an empty map whose keys are of the kind `K`, and that has issued none.
     ///
@@ -108,17 +127,39 @@ impl<T, A: Allocator, K> SlotMap<T, A, K> {
     pub fn with_key_in(alloc: A) -> Self
         ensures slots { result.slots ≡ [] }
         ensures capacity { result.capacity ≡ 0 }
+        ensures growth { result.growth ≡ Doubling }
+        ensures resizes { result.resizes ≡ 0 }
+        ensures issued { result.issued ≡ 0 }
+    {
+        SlotMap::with_growth_and_key_in(Growth::Doubling, alloc)
+    }
+
+    /// Returns an empty map with the growth policy `growth`, whose keys are of the kind `K`, and
+    /// that has issued none.
+    ///
+    /// Does not allocate. The policy is that of `with_growth_in`.
+    pub fn with_growth_and_key_in(growth: Growth, alloc: A) -> Self
+        ensures slots { result.slots ≡ [] }
+        ensures capacity { result.capacity ≡ 0 }
+        ensures growth { result.growth ≡ growth }
         ensures resizes { result.resizes ≡ 0 }
         ensures issued { result.issued ≡ 0 }
     {
         SlotMap {
-            values: RawVec::new_in(alloc),
+            values: RawVec::with_growth_in(growth, alloc),
             slots: None,
             free: Chain { first: 0, count: 0 },
             issued: 0,
             moves: Counter::zero(),
             kind: PhantomData,
         }
+    }
+
+    /// Returns the growth policy.
+    pub fn growth(&self) -> Growth
+        ensures { result ≡ self.now.growth }
+    {
+        self.values.growth()
     }
 
     /// Returns the number of values.
@@ -216,8 +257,7 @@ impl<T, A: Allocator, K> SlotMap<T, A, K> {
 
 #[tactic(auto, using(crate::proofs::Finds::finds))]
 impl<T: Drop, A: Allocator + Clone, K> SlotMap<T, A, K> {
-    // Reserves capacity for one more value. If the map is full, doubles the capacity, or adds four
-    // if that is more.
+    // Reserves capacity for one more value. If the map is full, grows it by its growth policy.
     #[inline]
     fn make_room(&mut self) -> Result<(), TryReserveError>
         // If the map is not full, it succeeds.
@@ -227,16 +267,17 @@ impl<T: Drop, A: Allocator + Clone, K> SlotMap<T, A, K> {
         // change.
         ensures enough { OnOk result (count self.new.slots < self.new.capacity) }
         ensures slots { self.new.slots ≡ self.old.slots }
+        ensures growth { self.new.growth ≡ self.old.growth }
         ensures issued { self.new.issued ≡ self.old.issued }
         ensures capacity { OnOk result (self.new.capacity ≡
             (if nat_lt (count self.old.slots) self.old.capacity then self.old.capacity
-            else grown self.old.capacity)) }
+            else grown self.old.growth self.old.capacity)) }
         ensures resizes { OnOk result (self.new.resizes ≡
             (if nat_lt (count self.old.slots) self.old.capacity then self.old.resizes
             else self.old.resizes + 1)) }
 
         // An error has the requested capacity, and leaves the map unchanged.
-        ensures error { IfErr result (λ e. IsErrorFor e (grown self.old.capacity)) }
+        ensures error { IfErr result (λ e. IsErrorFor e (grown self.old.growth self.old.capacity)) }
         ensures unchanged { OnErr result (self.new ≡ self.old) }
     {
         if self.has_room() {
@@ -257,28 +298,29 @@ impl<T: Drop, A: Allocator + Clone, K> SlotMap<T, A, K> {
         slots_in(&self.slots).len() < self.capacity()
     }
 
-    // Doubles the capacity of a full map, or adds four if that is more. Rarely called, so its code
-    // is apart.
+    // Grows a full map by its growth policy, by four at least. Rarely called, so its code is apart.
     #[cold]
     #[inline(never)]
     fn grow(&mut self) -> Result<(), TryReserveError>
         requires { count self.old.slots ≡ self.old.capacity }
         ensures enough { OnOk result (count self.new.slots < self.new.capacity) }
         ensures slots { self.new.slots ≡ self.old.slots }
+        ensures growth { self.new.growth ≡ self.old.growth }
         ensures issued { self.new.issued ≡ self.old.issued }
-        ensures capacity { OnOk result (self.new.capacity ≡ grown self.old.capacity) }
+        ensures capacity { OnOk result
+            (self.new.capacity ≡ grown self.old.growth self.old.capacity) }
         ensures resizes { OnOk result (self.new.resizes ≡ self.old.resizes + 1) }
-        ensures error { IfErr result (λ e. IsErrorFor e (grown self.old.capacity)) }
+        ensures error { IfErr result (λ e. IsErrorFor e (grown self.old.growth self.old.capacity)) }
         ensures unchanged { OnErr result (self.new ≡ self.old) }
     {
-        let len = self.len();
-        self.reserve(len.max(4))
+        let more = added_by(self.growth(), self.len());
+        self.reserve(more.max(4))
     }
 
     /// Inserts `value` and returns its key, which was not issued before.
     ///
-    /// Allocates only if the map is full, and then doubles its capacity, or adds four if that is
-    /// more.
+    /// Allocates only if the map is full, and then grows by its growth policy: unless another was
+    /// chosen, it doubles its capacity, or adds four if that is more.
     ///
     /// # Errors
     /// `CapacityOverflow` if 2^63 keys were issued, or the bytes exceed `isize::MAX`; `AllocError`
@@ -297,18 +339,21 @@ impl<T: Drop, A: Allocator + Clone, K> SlotMap<T, A, K> {
         ensures others { IfOk result
             (λ k. (j : KeyData) → j ≢ k.parts → find self.new j ≡ find self.old j) }
 
-        // There is one value more. The capacity grows, in new blocks, only if the map was full.
+        // There is one value more. The blocks grow only if the map was full, and the policy is as
+        // before.
         ensures count { OnOk result (count self.new.slots ≡ count self.old.slots + 1) }
+        ensures growth { self.new.growth ≡ self.old.growth }
         ensures capacity { OnOk result (self.new.capacity ≡
             (if nat_lt (count self.old.slots) self.old.capacity then self.old.capacity
-            else grown self.old.capacity)) }
+            else grown self.old.growth self.old.capacity)) }
         ensures resizes { OnOk result (self.new.resizes ≡
             (if nat_lt (count self.old.slots) self.old.capacity then self.old.resizes
             else self.old.resizes + 1)) }
 
         // An error returns the value, has the requested capacity, and leaves the map unchanged.
         ensures returned { IfErr result (λ r. r.source ≡ value) }
-        ensures error { IfErr result (λ r. IsErrorFor r.error (grown self.old.capacity)) }
+        ensures error { IfErr result
+            (λ r. IsErrorFor r.error (grown self.old.growth self.old.capacity)) }
         ensures unchanged { OnErr result (self.new ≡ self.old) }
     {
         let serial = self.issued;

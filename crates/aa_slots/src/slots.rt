@@ -3,7 +3,7 @@
 //! A slot is one word. The values are in a second block, each in the place with the index of its
 //! slot.
 ghost use Rattle.std.specs.Prelude.{◌≡◌, ◌+◌, ◌^◌, ◌<◌, ◌≤◌, IfNone, IfSome, length, is_some, None, Some, true, option_map, slice_set};
-ghost use Rattle.aa_slots.specs.Inside.{is_held_by, next_index, number_in, seen, serial_in, state_at, states_of, AreFree, IsSound};
+ghost use Rattle.aa_slots.specs.Inside.{capacity_of, is_held_by, next_index, number_in, seen, serial_in, state_at, states_of, AreFree, IsSound};
 ghost use Rattle.aa_slots.specs.Slotted.{count, slot_at, Puts};
 ghost use Rattle.aa_slots.specs.declared.slots.State.TheVariants.{Free, Held};
 
@@ -107,6 +107,17 @@ pub fn slots_in<A: Allocator>(slots: &Option<Vec<Slot, A>>) -> &[Slot]
     }
 }
 
+/// Returns the number of slots for which a map has memory.
+#[inline(always)]
+pub fn capacity_in<A: Allocator>(slots: &Option<Vec<Slot, A>>) -> usize
+    ensures { result ≡ capacity_of slots.now }
+{
+    match slots {
+        Some(made) => made.capacity(),
+        None => 0,
+    }
+}
+
 /// Returns the serial of the key whose value is in the slot at `index`, if there is one.
 #[inline(always)]
 pub fn serial_at(slots: &[Slot], index: usize) -> Option<u64>
@@ -195,6 +206,8 @@ fn put_first<T, A: Allocator>(
     ensures capacity { slots.new.capacity ≡ slots.old.capacity }
     ensures counts { slots.new.grown ≡ slots.old.grown }
     ensures value_counts { values.new.grown ≡ values.old.grown }
+    ensures growth { values.new.growth ≡ values.old.growth }
+    ensures places { length values.new.places ≡ length values.old.places }
 {
     let at = free.first;
     match slots[at].state() {
@@ -228,6 +241,8 @@ fn push_new<T, A: Allocator>(
     ensures capacity { slots.new.capacity ≡ slots.old.capacity }
     ensures counts { slots.new.grown ≡ slots.old.grown }
     ensures value_counts { values.new.grown ≡ values.old.grown }
+    ensures growth { values.new.growth ≡ values.old.growth }
+    ensures places { length values.new.places ≡ length values.old.places }
 {
     let at = slots.len();
     match slots.push_within_capacity(Slot::held(serial)) {
@@ -272,6 +287,8 @@ pub fn put<T, A: Allocator>(
     ensures capacity { slots.new.capacity ≡ slots.old.capacity }
     ensures counts { slots.new.grown ≡ slots.old.grown }
     ensures value_counts { values.new.grown ≡ values.old.grown }
+    ensures growth { values.new.growth ≡ values.old.growth }
+    ensures places { length values.new.places ≡ length values.old.places }
 {
     if free.count == 0 {
         push_new(slots, values, free, serial, value)
@@ -303,6 +320,8 @@ pub fn release<T, A: Allocator>(
     ensures capacity { slots.new.capacity ≡ slots.old.capacity }
     ensures counts { slots.new.grown ≡ slots.old.grown }
     ensures value_counts { values.new.grown ≡ values.old.grown }
+    ensures growth { values.new.growth ≡ values.old.growth }
+    ensures places { length values.new.places ≡ length values.old.places }
 {
     slots.prove_capacity_bounds();
     slots[at] = Slot::free(free.first);

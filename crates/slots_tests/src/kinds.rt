@@ -1,5 +1,6 @@
 //! Slot maps with keys of a kind of their own.
 use aa_slots::map::{Key, SlotMap};
+use allocator_api2::raw_vec::Growth;
 use std::alloc::Global;
 use std::mem::size_of;
 use test_allocators::Faulty;
@@ -47,7 +48,7 @@ fn a_map_has_keys_of_its_own_kind(rt: HostRuntime) {
     let mut players: Players<'_> = SlotMap::with_key_in(&heap);
     assert!(rt; finds_by_its_keys(&mut players) == Some(true) && players.len() == 2);
     let mut players: Players<'_> = SlotMap::with_key_in(&heap);
-    let mut tokens = SlotMap::with_key_in(rt.alloc());
+    let mut tokens = SlotMap::with_growth_and_key_in(Growth::InPlace, rt.alloc());
     assert!(rt; share_data(&mut players, &mut tokens) == Some(true));
     assert!(rt; tokens.is_empty() && players.len() == 1);
 }

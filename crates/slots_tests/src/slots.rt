@@ -3,6 +3,7 @@ use aa_slots::cursor::CursorMut;
 use aa_slots::map::{Key, SlotMap};
 use aa_table::set::Set;
 use allocator_api2::collections::TryReserveErrorKind;
+use allocator_api2::raw_vec::Growth;
 use std::alloc::{AllocError, Global};
 use std::default::{Emptied, MadeWith};
 use std::mem::forget;
@@ -211,6 +212,39 @@ fn reserved_capacity_is_used_when_the_heap_fails(rt: HostRuntime) {
     assert!(rt; is_steady(&mut map));
     let failed = TryReserveErrorKind::AllocError { capacity: 7 };
     assert!(rt; returned(&mut map, 4) == Some((4, failed)) && map.len() == 3);
+}
+
+// The capacities of a full map of twelve, and of one that grew from it, and the requests of the
+// insert that made it grow. One before failed at its second request.
+fn grown_twice(growth: Growth, heap: &Faulty<Global>) -> Option<(usize, usize, u64)> {
+    let mut map: Small<'_> = SlotMap::with_growth_in(growth, heap);
+    let mut all = makes_room(&mut map, 12);
+    for value in 0u32..12 {
+        all = put(&mut map, value).is_some() && all;
+    }
+    heap.fail_requests(1, 1);
+    all = put(&mut map, 12).is_none() && all;
+    let (kept, before) = (map.capacity(), heap.requests());
+    all = put(&mut map, 12).is_some() && map.len() == 13 && all;
+    if all && map.growth() == growth {
+        Some((kept, map.capacity(), heap.requests().saturating_sub(before)))
+    } else {
+        None
+    }
+}
+
+// A block that grew in place is kept if the other one could not.
+#[test]
+fn a_full_map_grows_by_its_policy(rt: HostRuntime) {
+    let heap = Faulty::new(rt.alloc());
+    for (growth, capacity, requests) in [
+        (Growth::Doubling, 24, 2),
+        (Growth::Sparing, 18, 2),
+        (Growth::InPlace, 24, 1),
+    ] {
+        assert!(rt; grown_twice(growth, &heap) == Some((12, capacity, requests)));
+    }
+    assert!(rt; heap.outstanding() == 0);
 }
 
 // A map with 1 and 3, where 3 is in the slot of a value that was removed.

@@ -1,10 +1,12 @@
 //! The capacity of a slot map.
 ghost use Rattle.std.specs.Prelude.{◌≡◌, ◌+◌, ◌-◌, [], length, IfErr, IfOk, IsOk, OnErr, OnOk};
 ghost use Rattle.allocator_api2.specs.Errors.{IsErrorFor};
+ghost use Rattle.allocator_api2.specs.declared.raw_vec.Growth.TheVariants.{Doubling};
 ghost use Rattle.aa_slots.specs.Slotted.{count, fresh_resizes, shrunk, with_room, HasRoom};
 
 use crate::blocks;
 use crate::map::SlotMap;
+use crate::slots::capacity_in;
 use allocator_api2::collections::{TryReserveError, TryReserveErrorKind};
 use std::alloc::Allocator;
 
@@ -20,6 +22,7 @@ impl<T: Drop, A: Allocator + Clone> SlotMap<T, A> {
         ensures slots { IfOk result (λ m. m.slots ≡ []) }
         ensures issued { IfOk result (λ m. m.issued ≡ 0) }
         ensures capacity { IfOk result (λ m. m.capacity ≡ capacity) }
+        ensures growth { IfOk result (λ m. m.growth ≡ Doubling) }
         ensures resizes { IfOk result (λ m. m.resizes ≡ fresh_resizes capacity) }
         ensures fits { capacity ≡ 0 → IsOk result }
         ensures error { IfErr result (λ e. IsErrorFor e capacity) }
@@ -41,6 +44,7 @@ impl<T: Drop, A: Allocator + Clone, K> SlotMap<T, A, K> {
         ensures slots { IfOk result (λ m. m.slots ≡ []) }
         ensures issued { IfOk result (λ m. m.issued ≡ 0) }
         ensures capacity { IfOk result (λ m. m.capacity ≡ capacity) }
+        ensures growth { IfOk result (λ m. m.growth ≡ Doubling) }
         ensures resizes { IfOk result (λ m. m.resizes ≡ fresh_resizes capacity) }
         ensures fits { capacity ≡ 0 → IsOk result }
         ensures error { IfErr result (λ e. IsErrorFor e capacity) }
@@ -52,12 +56,14 @@ impl<T: Drop, A: Allocator + Clone, K> SlotMap<T, A, K> {
 
     /// Reserves capacity for exactly `additional` more values.
     ///
-    /// Does not allocate if the capacity is already sufficient.
+    /// Does not allocate if the capacity is already sufficient. By the policy `InPlace`, both
+    /// blocks of a map without free slots grow in place, if they are full and the allocator can.
     ///
     /// # Errors
     /// `CapacityOverflow` if the bytes exceed `isize::MAX`; `AllocError` with the requested
     /// capacity, the number of values with `additional` more, if an allocation or a clone of the
-    /// allocator fails. The map is unchanged.
+    /// allocator fails. The map is unchanged. By the policy `InPlace`, the block of its values may
+    /// be larger.
     pub fn reserve(&mut self, additional: usize) -> Result<(), TryReserveError>
         ensures fits { HasRoom self.old additional → IsOk result }
         ensures enough { OnOk result (HasRoom self.new additional) }
@@ -73,6 +79,7 @@ impl<T: Drop, A: Allocator + Clone, K> SlotMap<T, A, K> {
             Some(capacity) => blocks::reserve(
                 &mut self.slots,
                 &mut self.values,
+                self.free.count,
                 capacity,
                 &mut self.moves,
             ),
@@ -106,10 +113,7 @@ impl<T, A: Allocator, K> SlotMap<T, A, K> {
     pub fn capacity(&self) -> usize
         ensures { result ≡ self.now.capacity }
     {
-        match &self.slots {
-            Some(made) => made.capacity(),
-            None => 0,
-        }
+        capacity_in(&self.slots)
     }
 
     // Returns the number of values that can be inserted without another allocation.

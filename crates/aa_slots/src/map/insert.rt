@@ -40,17 +40,19 @@ impl<T: Drop, A: Allocator + Clone, K> SlotMap<T, A, K> {
         ensures others { IfOk result
             (λ k. (j : KeyData) → j ≢ k.parts → find self.new j ≡ find self.old j) }
 
-        // There is one value more. The capacity grows, in new blocks, only if the map was full.
+        // There is one value more. The blocks grow only if the map was full, and the policy is as
+        // before.
         ensures count { OnOk result (count self.new.slots ≡ count self.old.slots + 1) }
+        ensures growth { self.new.growth ≡ self.old.growth }
         ensures capacity { OnOk result (self.new.capacity ≡
             (if nat_lt (count self.old.slots) self.old.capacity then self.old.capacity
-            else grown self.old.capacity)) }
+            else grown self.old.growth self.old.capacity)) }
         ensures resizes { OnOk result (self.new.resizes ≡
             (if nat_lt (count self.old.slots) self.old.capacity then self.old.resizes
             else self.old.resizes + 1)) }
 
         // An error has the requested capacity, and leaves the map unchanged.
-        ensures error { IfErr result (λ e. IsErrorFor e (grown self.old.capacity)) }
+        ensures error { IfErr result (λ e. IsErrorFor e (grown self.old.growth self.old.capacity)) }
         ensures unchanged { OnErr result (self.new ≡ self.old) }
     {
         let serial = self.issued;

@@ -42,6 +42,7 @@ impl<T: Drop, A: Allocator, K> SlotMap<T, A, K> {
         ensures kept { (last : F) × Keeps F.step f (entries self.old) (entries self.new) last }
         ensures slots { length self.new.slots ≡ length self.old.slots }
         ensures capacity { self.new.capacity ≡ self.old.capacity }
+        ensures growth { self.new.growth ≡ self.old.growth }
         ensures resizes { self.new.resizes ≡ self.old.resizes }
         ensures issued { self.new.issued ≡ self.old.issued }
     {

@@ -7,4 +7,5 @@ abbrev pub invariant-each : goal.invariant-each
 invariant-each g l =
     (length l.values.places ≡ length l.fn.values.places)
     × (l.values.grown ≡ l.fn.values.grown)
+    × (l.values.growth ≡ l.fn.values.growth)
     × AreHeldBetween l.slots l.values.places l.index l.end

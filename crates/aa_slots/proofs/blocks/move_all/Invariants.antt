@@ -12,4 +12,5 @@ invariant-each g l = record {
       → get_or l.from.places i None ≡ get_or l.fn.from.places i None;
   room : length l.to.places ≡ length l.fn.to.places;
   counts : l.to.grown ≡ l.fn.to.grown;
+  growth : l.to.growth ≡ l.fn.to.growth;
 }

@@ -11,4 +11,5 @@ invariant-each g l = record {
       × (get_or l.to.places i None ≡ Some (tt, y)) × g.T.Clone.is_clone x y;
   room : length l.to.places ≡ length l.fn.to.places;
   counts : l.to.grown ≡ l.fn.to.grown;
+  growth : l.to.growth ≡ l.fn.to.growth;
 }

@@ -47,6 +47,7 @@ returns-clause-made g c =
     rw (← c.self.view_is) (record {
       each = rw c.in_ok-slots.ensures.slots (each-cloned _ _ _ made);
       capacity = c.in_ok-slots.ensures.capacity ∙ sym (length-seen _ c.self.inside.values.places);
+      growth = c.in_ok-values.ensures.growth;
       resizes = c.in_ok-slots.ensures.blocks ∙ ap fresh_resizes (sym (length-seen _ c.self.inside.values.places));
       issued = refl;
     })

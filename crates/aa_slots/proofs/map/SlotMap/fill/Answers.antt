@@ -16,6 +16,7 @@ each-preserved g c =
       h.3,
       h.4,
       h.5,
+      h.6,
     )
 
 pub returns-clause-entries : goal.returns-clause-entries

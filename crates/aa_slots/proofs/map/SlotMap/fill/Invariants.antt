@@ -13,6 +13,7 @@ invariant-each g l =
     × (before at ++ filled l.value (remaining at)
     ≡ filled l.value (entries (cursor_map l.initial.values)))
     × ((cursor_map at).capacity ≡ (cursor_map l.initial.values).capacity)
+    × ((cursor_map at).growth ≡ (cursor_map l.initial.values).growth)
     × ((cursor_map at).resizes ≡ (cursor_map l.initial.values).resizes)
     × ((cursor_map at).issued ≡ (cursor_map l.initial.values).issued)
 

@@ -1,4 +1,4 @@
-use Rattle.aa_slots.proofs.Common.{Slotted, ap, find, inl, is_some, rules, seen, slot_at, sym, true, value_under, with_value, ◌∙◌, ◌≡◌}
+use Rattle.aa_slots.proofs.Common.{Slotted, ap, find, inl, is_some, length-set, rules, seen, slot_at, sym, true, value_under, with_value, ◌∙◌, ◌≡◌}
 use Rattle.aa_slots.proofs.Seen.{has-key, seen-rewritten}
 use Rattle.aa_slots.proofs.Writing.{rewritten-sound}
 use Rattle.aa_slots.specs.Inside.{blocks_of, capacity_of, states_of}
@@ -16,7 +16,7 @@ invariant_of-self-lent g c w =
     let m = c.self.inside in
     let found : is_some (value_under c.data-key.result.serial (slot_at (seen (states_of m.slots) m.values.places) c.data-key.result.index)) ≡ true = search rules in (
       rewritten-sound c.self.invariant.0 c.data-key.result.index (ap is_some (has-key _ _ c.data-key.result.index c.data-key.result.serial found).slot) _,
-      record { moved = c.self.invariant.1.moved; once = c.self.invariant.1.once },
+      record { moved = c.self.invariant.1.moved; each = rw (length-set m.values.places c.data-key.result.index _) c.self.invariant.1.each; once = c.self.invariant.1.once },
     )
 
 pub returns-then-holds : goal.returns-then-holds
@@ -29,7 +29,7 @@ returns-then-holds g c =
       λ i. inl (
         c.self-then-holds-1.given,
         λ w.
-            (ap (λ ss. record { slots = ss; capacity = capacity_of m.slots; resizes = blocks_of m.slots; issued = m.issued }) (seen-rewritten (states_of m.slots) m.values.places c.data-key.result.index c.data-key.result.serial k.entry (k.entry.0, w) k.is k.here)
+            (ap (λ ss. record { slots = ss; capacity = capacity_of m.slots; growth = m.values.growth; resizes = blocks_of m.slots; issued = m.issued }) (seen-rewritten (states_of m.slots) m.values.places c.data-key.result.index c.data-key.result.serial k.entry (k.entry.0, w) k.is k.here)
             ∙ ap (λ (n : Slotted _). with_value n c.data-key.result w) c.self.view_is
             ∙ ap (λ k. with_value c.args.self.now k w) c.data-key.ensures) i,
       ),

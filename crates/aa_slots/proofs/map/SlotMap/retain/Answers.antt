@@ -23,19 +23,20 @@ each-preserved g c =
     let call = may-return (goal.F-step g) at.f key value c.f.result _ c.f.new.self (rw c.from.ensures at c.f.ensures) in (
       search of_calls,
       ap (λ m. m.capacity) written ∙ inv.1,
-      ap (λ m. m.resizes) written ∙ inv.2,
-      ap (λ m. m.issued) written ∙ inv.3,
+      ap (λ m. m.growth) written ∙ inv.2,
+      ap (λ m. m.resizes) written ∙ inv.3,
+      ap (λ m. m.issued) written ∙ inv.4,
       rw written (passed-called _ _ _ _ _ _
-          (omega (arith, c.each-test.true, c.slot_count-index-end.ensures, inv.4.0))
-          inv.4 key _ left c.f.result c.f.new.self here.0 here.1 call),
+          (omega (arith, c.each-test.true, c.slot_count-index-end.ensures, inv.5.0))
+          inv.5 key _ left c.f.result c.f.new.self here.0 here.1 call),
     )
 
 pub returns-clause-kept : goal.returns-clause-kept
 returns-clause-kept g c = (
   c.each.f,
   pairs-kept (goal.F-step g) _ 0 _ _ _ (passed-all (goal.F-step g) _ _ _ _ _
-      (omega (arith, c.each-test.false, c.slot_count-index-end.ensures)) c.each.invariant.4),
+      (omega (arith, c.each-test.false, c.slot_count-index-end.ensures)) c.each.invariant.5),
 )
 
 pub returns-clause-slots : goal.returns-clause-slots
-returns-clause-slots g c = c.each.invariant.4.0
+returns-clause-slots g c = c.each.invariant.5.0
