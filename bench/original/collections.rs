@@ -55,7 +55,7 @@ impl Held {
     /// Fills the collection as the case finds it, and returns whether there is such a case.
     pub fn prepare(&mut self, case: &str, count: u32) -> bool {
         match case {
-            "table_insert" | "table_reserved" | "box_tree" | "slots_insert" | "map_insert" => fill_keys(&mut self.keys, count, 0),
+            "table_insert" | "table_reserved" | "box_tree" | "slots_insert" | "slots_in_place" | "map_insert" => fill_keys(&mut self.keys, count, 0),
             "table_hit" | "table_remove" | "table_iter" => self.fill_table(count),
             "table_iter_sparse" => self.fill_sparse(count),
             "table_miss" => {
@@ -79,7 +79,7 @@ impl Held {
                     self.issued.push(self.slots.insert(*value));
                 }
             }
-            "ring_push" | "inline_few" | "inline_rows" => (),
+            "ring_push" | "ring_in_place" | "inline_few" | "inline_rows" => (),
             "gap_insert" | "gap_typing" => self.text.fill(count),
             _ => return false,
         }
@@ -117,10 +117,12 @@ impl Held {
             "map_scan" => self.sum = map_scan(&self.map),
             "ring_queue" => ring_queue(&mut self.queue, count),
             "ring_push" => ring_push(&mut self.queue, count),
+            "ring_in_place" => ring_in_place(&mut self.queue, count),
             "gap_insert" => gap_insert(&mut self.text),
             "gap_typing" => gap_typing(&mut self.text, count),
             "inline_rows" => inline_rows(&mut self.rows, count),
             "slots_insert" => slots_insert(&mut self.slots, &self.keys),
+            "slots_in_place" => slots_in_place(&mut self.slots, &self.keys),
             "slots_get" => self.sum = slots_get(&self.slots, &self.issued),
             "slots_churn" => slots_churn(&mut self.slots, &self.issued),
             _ => self.sum = u64::from(inline_few(count)),
@@ -315,6 +317,13 @@ fn ring_push(queue: &mut VecDeque<u32>, count: u32) {
     }
 }
 
+#[inline(never)]
+fn ring_in_place(queue: &mut VecDeque<u32>, count: u32) {
+    for i in 0..count {
+        queue.push_back(i);
+    }
+}
+
 // Rust has no vector with places in itself.
 #[inline(never)]
 fn inline_few(count: u32) -> u32 {
@@ -399,6 +408,13 @@ impl Slots {
 
 #[inline(never)]
 fn slots_insert(slots: &mut Slots, values: &[u64]) {
+    for value in values {
+        slots.insert(*value);
+    }
+}
+
+#[inline(never)]
+fn slots_in_place(slots: &mut Slots, values: &[u64]) {
     for value in values {
         slots.insert(*value);
     }

@@ -9,7 +9,7 @@ use Rattle.benchcases.specs.declared.case.Choice.TheVariants.{RetainHalf, Retain
 use Rattle.benchcases.specs.declared.case.Pieces.{Pieces}
 use Rattle.benchcases.specs.declared.case.Pieces.TheVariants.{OfFour, OfTwenty, Mixed, Written}
 use Rattle.benchcases.specs.declared.case.Collection.{Collection}
-use Rattle.benchcases.specs.declared.case.Collection.TheVariants.{TableInsert, TableHit, TableMiss, TableRemove, TableReserved, TableIter, TableIterSparse, BoxTree, BoxTreeFind, MapInsert, MapGet, MapRemove, MapScan, RingQueue, RingPush, InlineFew, InlineRows, SlotsInsert, SlotsGet, SlotsChurn}
+use Rattle.benchcases.specs.declared.case.Collection.TheVariants.{TableInsert, TableHit, TableMiss, TableRemove, TableReserved, TableIter, TableIterSparse, BoxTree, BoxTreeFind, MapInsert, MapGet, MapRemove, MapScan, RingQueue, RingPush, RingInPlace, InlineFew, InlineRows, SlotsInsert, SlotsInPlace, SlotsGet, SlotsChurn}
 use Rattle.benchcases.specs.declared.case.Use.{Use}
 use Rattle.benchcases.specs.declared.case.Use.TheVariants.{Serialise, Tokenize, Lines, Lru, Merge, DedupTexts, TextTable, InsertSorted, Grid, Boxes, Rows, Window}
 use Rattle.benchcases.specs.declared.case.Size.{Size}
@@ -60,9 +60,11 @@ name_of_collection MapRemove = codes "map_remove"
 name_of_collection MapScan = codes "map_scan"
 name_of_collection RingQueue = codes "ring_queue"
 name_of_collection RingPush = codes "ring_push"
+name_of_collection RingInPlace = codes "ring_in_place"
 name_of_collection InlineFew = codes "inline_few"
 name_of_collection InlineRows = codes "inline_rows"
 name_of_collection SlotsInsert = codes "slots_insert"
+name_of_collection SlotsInPlace = codes "slots_in_place"
 name_of_collection SlotsGet = codes "slots_get"
 name_of_collection SlotsChurn = codes "slots_churn"
 

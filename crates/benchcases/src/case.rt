@@ -159,12 +159,16 @@ pub enum Collection {
     RingQueue,
     /// Pushes at the back of an empty queue.
     RingPush,
+    /// Pushes at the back of an empty queue that grows in place.
+    RingInPlace,
     /// Makes vectors of eight numbers and takes the numbers, COUNT in all.
     InlineFew,
     /// Makes a vector of such vectors, of COUNT numbers in all.
     InlineRows,
     /// Inserts numbers into an empty slot map.
     SlotsInsert,
+    /// Inserts numbers into an empty slot map that grows in place.
+    SlotsInPlace,
     /// Looks up each key of a slot map.
     SlotsGet,
     /// Removes each number of a slot map and inserts another for it.
@@ -369,9 +373,11 @@ fn collection_of(name: &str) -> Option<Collection>
         "map_scan" => Collection::MapScan,
         "ring_queue" => Collection::RingQueue,
         "ring_push" => Collection::RingPush,
+        "ring_in_place" => Collection::RingInPlace,
         "inline_few" => Collection::InlineFew,
         "inline_rows" => Collection::InlineRows,
         "slots_insert" => Collection::SlotsInsert,
+        "slots_in_place" => Collection::SlotsInPlace,
         "slots_get" => Collection::SlotsGet,
         "slots_churn" => Collection::SlotsChurn,
         _ => return None,

@@ -8,6 +8,7 @@ use aa_ring::ring::Ring;
 use aa_slots::map::{Key, SlotMap};
 use aa_table::table::Table;
 use allocator_api2::boxed::Box;
+use allocator_api2::raw_vec::Growth;
 use allocator_api2::vec::Vec;
 use benchcases::case::Collection;
 use std::alloc::Global;
@@ -89,6 +90,14 @@ impl Held {
             Collection::SlotsGet | Collection::SlotsChurn => {
                 fill_keys(&mut self.keys, count, 0) && self.fill_slots()
             }
+            Collection::RingInPlace => {
+                self.queue = Ring::with_growth_in(Growth::InPlace, self.alloc);
+                true
+            }
+            Collection::SlotsInPlace => {
+                self.slots = SlotMap::with_growth_in(Growth::InPlace, self.alloc);
+                fill_keys(&mut self.keys, count, 0)
+            }
             Collection::RingPush | Collection::InlineFew | Collection::InlineRows => true,
         }
     }
@@ -142,8 +151,10 @@ impl Held {
             Collection::MapScan => self.sum = map_scan(&self.map),
             Collection::RingQueue => return ring_queue(&mut self.queue, count),
             Collection::RingPush => return ring_push(&mut self.queue, count),
+            Collection::RingInPlace => return ring_in_place(&mut self.queue, count),
             Collection::InlineRows => return inline_rows(&mut self.rows, self.alloc, count),
             Collection::SlotsInsert => return slots_insert(&mut self.slots, keys),
+            Collection::SlotsInPlace => return slots_in_place(&mut self.slots, keys),
             Collection::SlotsGet => self.sum = slots_get(&self.slots, self.issued.as_slice()),
             Collection::SlotsChurn => {
                 return slots_churn(&mut self.slots, self.issued.as_slice());
@@ -326,6 +337,11 @@ fn ring_push(queue: &mut Queue, count: u32) -> bool {
     each_is_granted!(i in 0..count, queue.push_back(i))
 }
 
+#[inline(never)]
+fn ring_in_place(queue: &mut Queue, count: u32) -> bool {
+    each_is_granted!(i in 0..count, queue.push_back(i))
+}
+
 // Makes a vector of up to eight inline items for each eight numbers.
 #[inline(never)]
 fn inline_few(alloc: Global, count: u32) -> Option<u64> {
@@ -360,6 +376,11 @@ fn inline_rows(rows: &mut Vec<Few>, alloc: Global, count: u32) -> bool {
 
 #[inline(never)]
 fn slots_insert(slots: &mut Slots, values: &[u64]) -> bool {
+    each_is_granted!(value in values, slots.insert(*value))
+}
+
+#[inline(never)]
+fn slots_in_place(slots: &mut Slots, values: &[u64]) -> bool {
     each_is_granted!(value in values, slots.insert(*value))
 }
 

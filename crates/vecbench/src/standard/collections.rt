@@ -59,6 +59,7 @@ impl Held {
             | Collection::TableReserved
             | Collection::BoxTree
             | Collection::SlotsInsert
+            | Collection::SlotsInPlace
             | Collection::MapInsert => { fill_keys(&mut self.keys, count, 0) }
             Collection::TableHit | Collection::TableRemove | Collection::TableIter => {
                 self.fill_table(count)
@@ -82,7 +83,10 @@ impl Held {
             Collection::SlotsGet | Collection::SlotsChurn => {
                 fill_keys(&mut self.keys, count, 0) && self.fill_slots()
             }
-            Collection::RingPush | Collection::InlineFew | Collection::InlineRows => true,
+            Collection::RingPush
+            | Collection::RingInPlace
+            | Collection::InlineFew
+            | Collection::InlineRows => true,
         }
     }
 
@@ -135,8 +139,10 @@ impl Held {
             Collection::MapScan => self.sum = map_scan(&self.map),
             Collection::RingQueue => return ring_queue(&mut self.queue, count),
             Collection::RingPush => return ring_push(&mut self.queue, count),
+            Collection::RingInPlace => return ring_in_place(&mut self.queue, count),
             Collection::InlineRows => return inline_rows(&mut self.rows, self.alloc, count),
             Collection::SlotsInsert => return slots_insert(&mut self.slots, keys),
+            Collection::SlotsInPlace => return slots_in_place(&mut self.slots, keys),
             Collection::SlotsGet => self.sum = slots_get(&self.slots, self.issued.as_slice()),
             Collection::SlotsChurn => {
                 return slots_churn(&mut self.slots, self.issued.as_slice());
@@ -319,6 +325,11 @@ fn ring_push(queue: &mut Queue, count: u32) -> bool {
     each_is_granted!(i in 0..count, queue.push_back(i))
 }
 
+#[inline(never)]
+fn ring_in_place(queue: &mut Queue, count: u32) -> bool {
+    each_is_granted!(i in 0..count, queue.push_back(i))
+}
+
 // Makes a vector of eight items for each eight numbers.
 #[inline(never)]
 fn inline_few(alloc: Global, count: u32) -> Option<u64> {
@@ -353,6 +364,11 @@ fn inline_rows(rows: &mut Vec<Few>, alloc: Global, count: u32) -> bool {
 
 #[inline(never)]
 fn slots_insert(slots: &mut Slots, values: &[u64]) -> bool {
+    each_is_granted!(value in values, slots.insert(*value))
+}
+
+#[inline(never)]
+fn slots_in_place(slots: &mut Slots, values: &[u64]) -> bool {
     each_is_granted!(value in values, slots.insert(*value))
 }
 
