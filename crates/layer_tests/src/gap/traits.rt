@@ -10,6 +10,7 @@ use std::cmp::Ordering;
 use std::default::{Emptied, MadeWith};
 use std::hash::{DefaultHasher, Hash, Hasher};
 use std::iter::Extend;
+use std::ops::Range;
 use std::test::Fail;
 use test_allocators::Faulty;
 
@@ -106,12 +107,17 @@ enum Make {
     CloneAsTrait,
 }
 
+// A text of these numbers.
+fn text_of<'a>(numbers: Range<u32>, heap: &'a Faulty<Global>) -> Result<Text<'a>, TryReserveError> {
+    GapBuffer::from_iter_in(numbers, heap)
+}
+
 // Returns the outcome of a call, with the numbers from 4 on or with those of a text.
 fn made<'a>(call: Make, heap: &'a Faulty<Global>) -> Result<Text<'a>, TryReserveError> {
     let mut text = nine_put(heap);
     match call {
         Make::Collect => return Ok((4..7).collect(heap)?),
-        Make::FromIterIn => return GapBuffer::from_iter_in(4..7, heap),
+        Make::FromIterIn => return text_of(4..7, heap),
         Make::Extend => text.extend(4..6)?,
         Make::ExtendAsTrait => Extend::extend(&mut text, 4..6)?,
         Make::Clone => return text.clone(),
@@ -161,20 +167,29 @@ fn a_failed_request_makes_no_text(rt: HostRuntime) {
     }
 }
 
-// A thousand elements in a text, and how many requests a vector of them makes.
-fn requests_of_vector(heap: &Faulty<Global>) -> Result<(usize, u64), TryReserveError> {
-    let text: Text<'_> = GapBuffer::from_iter_in(0..1000, heap)?;
-    let requests = heap.requests();
-    let mut copies: Vec<u32, &Faulty<Global>> = Vec::new_in(heap);
+// How many elements of a text are copied to a vector.
+fn count_copied(text: &Text<'_>) -> Result<usize, TryReserveError> {
+    let mut copies: Vec<u32, &Faulty<Global>> = Vec::new_in(*text.allocator());
     copies.extend_copied(text.iter())?;
-    Ok((copies.len(), heap.requests().saturating_sub(requests)))
+    Ok(copies.len())
+}
+
+// Of a thousand elements, beside how many requests there were for the text, and for both.
+fn requests_of_vector(heap: &Faulty<Global>) -> Option<(usize, u64, u64)> {
+    match text_of(0..1000, heap) {
+        Ok(text) => {
+            let requests = heap.requests();
+            let count = count_copied(&text).unwrap_or(0);
+            Some((count, requests, heap.requests()))
+        }
+        Err(_) => None,
+    }
 }
 
 #[test]
 fn a_vector_of_a_text_takes_one_block(rt: HostRuntime) {
     let heap = Faulty::new(rt.alloc());
-    assert!(rt; matches!(requests_of_vector(&heap), Ok((1000, 1))));
-    assert!(rt; heap.requests() == 2);
+    assert!(rt; requests_of_vector(&heap) == Some((1000, 1, 2)));
 }
 
 // The lengths of the two strings of "aé" with the cursor there, or how many bytes before the fault

@@ -31,24 +31,35 @@ fn third(x: &mut Counted<'_>) -> u32 {
     x.value / 3
 }
 
-// Calls on a vector; what it makes is dropped.
 #[tactic(auto, using(aa_vec::proofs::Callers::callers))]
+fn keep_odd(v: &mut Many<'_>) {
+    v.retain(is_odd);
+}
+
+#[tactic(auto, using(aa_vec::proofs::Callers::callers))]
+fn remove_repeats(v: &mut Many<'_>) {
+    v.dedup_by_key(third);
+}
+
+// Calls on a vector; what it makes is dropped.
 fn called(call: Call, v: &mut Many<'_>) {
     match call {
         Call::Take(taking) => drop(taken(taking, v)),
-        Call::Retain => v.retain(is_odd),
-        Call::DedupByKey => v.dedup_by_key(third),
+        Call::Retain => keep_odd(v),
+        Call::DedupByKey => remove_repeats(v),
         Call::SplitOff(at) => drop(v.split_off(at.min(v.len()))),
         _ => {}
     }
 }
 
-// How many elements are dropped once a vector became something else, before that is dropped.
-fn became(call: Call, v: Many<'_>, drops: &Cell<u32>) -> u32 {
-    if matches!(call, Call::IntoBoxedSlice) {
-        let _list = v.into_boxed_slice();
-        return drops.get();
-    }
+// How many elements are dropped once a vector became a boxed slice, before that is dropped.
+fn boxed(v: Many<'_>, drops: &Cell<u32>) -> u32 {
+    let _list = v.into_boxed_slice();
+    drops.get()
+}
+
+// How many are dropped once an item was taken from each end, before the others are.
+fn taken_from_ends(v: Many<'_>, drops: &Cell<u32>) -> u32 {
     let mut items = v.into_iter();
     drop(items.next());
     drop(items.next_back());
@@ -60,7 +71,8 @@ fn seen(call: Call, v: Many<'_>, heap: &Faulty<Global>, drops: &Cell<u32>) -> (u
     let mut v = v;
     let before = heap.requests();
     let dropped = match call {
-        Call::IntoBoxedSlice | Call::IntoIter => became(call, v, drops),
+        Call::IntoBoxedSlice => boxed(v, drops),
+        Call::IntoIter => taken_from_ends(v, drops),
         _ => {
             called(call, &mut v);
             drops.get()

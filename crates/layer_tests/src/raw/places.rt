@@ -4,46 +4,45 @@ use aa_raw::raw_box::RawBox;
 use std::alloc::Global;
 use test_allocators::Faulty;
 
-// Puts one value into a new place, and another over it. Returns whether each was there.
-fn holds_in_turn<T: PartialEq + Copy>(heap: &Faulty<Global>, x: T, y: T) -> bool {
+// Puts one value into a new place, and another over it. Returns what was there each time.
+fn held_in_turn<T: Copy>(heap: &Faulty<Global>, x: T, y: T) -> Option<(T, T)> {
     let Ok(mut place) = RawBox::allocate_in(heap) else {
-        return false;
+        return None;
     };
     let _heap: &&Faulty<Global> = place.allocator();
     place.put(x);
-    let is_first = *place.get() == x;
+    let first = *place.get();
     *place.get_mut() = y;
-    let is_second = place.take() == y;
-    is_first && is_second
+    Some((first, place.take()))
 }
 
 #[test]
 fn a_place_holds_one_value(rt: HostRuntime) {
     let heap = Faulty::new(rt.alloc());
-    assert!(rt; holds_in_turn(&heap, 7u64, 8) && heap.requests() == 1);
-    assert!(rt; holds_in_turn(&heap, (), ()) && heap.requests() == 1);
+    assert!(rt; held_in_turn(&heap, 7u64, 8) == Some((7, 8)) && heap.requests() == 1);
+    assert!(rt; held_in_turn(&heap, (), ()) == Some(((), ())) && heap.requests() == 1);
     assert!(rt; is_all_freed(&heap));
 }
 
-// Puts a value into a new place, and takes it from the block that the place becomes. Returns the
-// capacity of the block, or 0 if the value was not there.
+// Puts a value into a new place, and takes it from the block that the place becomes. Returns it
+// beside the capacity of the block.
 #[tactic(auto, using(aa_raw::proofs::Beyond::emptied))]
-fn capacity_as_block<T: PartialEq + Copy>(heap: &Faulty<Global>, x: T) -> usize {
+fn taken_as_block<T: Copy>(heap: &Faulty<Global>, x: T) -> Option<(T, usize)> {
     let Ok(mut place) = RawBox::allocate_in(heap) else {
-        return 0;
+        return None;
     };
     place.put(x);
     let mut block = place.into_raw_vec();
-    let is_there = block.take(0) == x;
+    let value = block.take(0);
     let capacity = block.capacity();
     block.forget_from(0);
-    if is_there { capacity } else { 0 }
+    Some((value, capacity))
 }
 
 #[test]
 fn a_place_becomes_a_block(rt: HostRuntime) {
     let heap = Faulty::new(rt.alloc());
-    assert!(rt; capacity_as_block(&heap, 7u64) == 1 && heap.requests() == 1);
-    assert!(rt; capacity_as_block(&heap, ()) == usize::MAX && heap.requests() == 1);
+    assert!(rt; taken_as_block(&heap, 7u64) == Some((7, 1)) && heap.requests() == 1);
+    assert!(rt; taken_as_block(&heap, ()) == Some(((), usize::MAX)) && heap.requests() == 1);
     assert!(rt; is_all_freed(&heap));
 }
