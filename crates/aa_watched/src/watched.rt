@@ -1,8 +1,10 @@
 use std::alloc::{AllocError, Allocator};
+use std::mem::{align_of, size_of};
 
 /// A watch that decides about the requests of a collection to an allocator, and counts them.
 ///
-/// It never sees a block, so implementing it needs no proof by hand.
+/// It never sees a block, so implementing it needs no proof by hand. A block that grows is a request
+/// for its new size. If it is granted, the block of the old size is then deallocated.
 pub trait Watch: Drop {
     /// Returns whether a request for `size` bytes at alignment `align` is to fail.
     ///
@@ -21,7 +23,8 @@ pub trait Watch: Drop {
 
 /// An allocator that passes each request on to `inner`, unless its watch fails it.
 ///
-/// `allocate` returns `AllocError` if the watch fails the request or `inner` does.
+/// `grow` is passed on, too, so that a block grows in place if `inner` can. Both return `AllocError`
+/// if the watch fails the request or `inner` does.
 pub struct Watched<B: Allocator, W: Watch> {
     inner: B,
     watch: W,
@@ -66,6 +69,27 @@ unsafe impl<B: Allocator, W: Watch> Allocator for Watched<B, W> {
     unsafe fn deallocate(&self, ptr: *mut u8, size: usize, align: usize) {
         self.watch.on_deallocate(size, align);
         self.inner.deallocate(ptr, size, align);
+    }
+
+    unsafe fn grow<T>(
+        &self,
+        ptr: *mut T,
+        len: usize,
+        old_cap: usize,
+        new_cap: usize,
+    ) -> Result<*mut T, AllocError> {
+        let size = new_cap * size_of::<T>();
+        if self.watch.should_fail(size, align_of::<T>()) {
+            return Err(AllocError);
+        }
+        let Ok(block) = self.inner.grow(ptr, len, old_cap, new_cap) else {
+            self.watch.on_failure(size, align_of::<T>());
+            return Err(AllocError);
+        };
+        self.watch.on_allocate(size, align_of::<T>());
+        self.watch
+            .on_deallocate(old_cap * size_of::<T>(), align_of::<T>());
+        Ok(block)
     }
 }
 

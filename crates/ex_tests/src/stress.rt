@@ -143,6 +143,7 @@ fn a_fault_is_shown_by_one_step(rt: HostRuntime) {
     };
     let subject = OfEightMore { books: rt.alloc() };
     let Ok(mut script) = Script::new(rt.alloc(), config) else {
+        assert!(rt; false);
         return;
     };
     assert!(rt; script.has(Step::Call(0)) && script.len() == 104 && script.config().seed == 7);
@@ -169,6 +170,7 @@ fn a_run_is_replayed(rt: HostRuntime) {
     let config = Config::new(7, 40);
     let (first, second) = (count_below(rt.alloc()), count_below(rt.alloc()));
     let Ok(script) = Script::new(rt.alloc(), config) else {
+        assert!(rt; false);
         return;
     };
     let run = stress_over_two(rt.alloc(), &first, &second, Counting::new(&first), config).ok();

@@ -1,4 +1,7 @@
 //! How a call ended, and whether all memory was freed.
+ghost use Rattle.std.specs.Prelude.{◌≡◌};
+ghost use Rattle.test_allocators.specs.Ends.{end_of_kind, end_of_result};
+
 use aa_raw::collections::{TryReserveError, TryReserveErrorKind};
 use aa_watched::faulty::Faulty;
 use std::alloc::Global;
@@ -13,7 +16,9 @@ pub enum End {
 }
 
 /// Returns how a call that failed with this error ended.
-pub fn end_by(error: TryReserveError) -> End {
+pub fn end_by(error: TryReserveError) -> End
+    ensures { result ≡ end_of_kind error.kind }
+{
     match error.kind() {
         TryReserveErrorKind::AllocError { capacity } => End::NoMemory(capacity),
         TryReserveErrorKind::CapacityOverflow => End::TooLong,
@@ -21,7 +26,9 @@ pub fn end_by(error: TryReserveError) -> End {
 }
 
 /// How a call ended that returns something, which is dropped.
-pub fn end_of<T: Drop>(ended: Result<T, TryReserveError>) -> End {
+pub fn end_of<T: Drop>(ended: Result<T, TryReserveError>) -> End
+    ensures { result ≡ end_of_result ended }
+{
     match ended {
         Ok(_) => End::Done,
         Err(error) => end_by(error),

@@ -11,7 +11,11 @@ use aa_allocators::spaced::Spaced;
 use aa_allocators::zeroing::Zeroing;
 use aa_watched::budget::Budget;
 use aa_watched::counting::Counting;
+use aa_watched::watched::{Watch, Watched};
+use allocator_api2::raw_vec::Growth;
+use allocator_api2::vec::Vec;
 use std::alloc::{Allocator, Global};
+use std::cell::Cell;
 use test_allocators::Faulty;
 use test_allocators::ends::is_all_freed;
 
@@ -114,4 +118,43 @@ fn a_layer_passes_on_one_request(rt: HostRuntime) {
             row.5
         );
     }
+}
+
+// A watch that keeps how many blocks the allocator below it had freed when one was last allocated.
+#[derive(Drop)]
+struct FreedBelow<'a> {
+    below: &'a Counting<Global>,
+    frees: Cell<u64>,
+}
+
+impl Watch for FreedBelow<'_> {
+    fn should_fail(&self, _size: usize, _align: usize) -> bool {
+        false
+    }
+
+    fn on_allocate(&self, _size: usize, _align: usize) {
+        self.frees.set(self.below.counts().frees);
+    }
+
+    fn on_failure(&self, _size: usize, _align: usize) {}
+
+    fn on_deallocate(&self, _size: usize, _align: usize) {}
+}
+
+// Fills a vector of four places, which then grows in place. Returns its capacity, and how many
+// blocks the allocator below had freed when the one above knew of the new block.
+fn grown_over(below: &Counting<Global>) -> Option<(usize, u64)> {
+    let frees = Cell::new(0);
+    let heap = Watched::with_watch(below, FreedBelow { below, frees });
+    let mut v = Vec::with_growth_in(Growth::InPlace, &heap);
+    for x in [1u64, 2, 3, 4, 5] {
+        v.push(x).ok()?;
+    }
+    Some((v.capacity(), heap.watch().frees.get()))
+}
+
+#[test]
+fn growth_in_place_is_passed_on(rt: HostRuntime) {
+    let below = Counting::new(rt.alloc());
+    assert!(rt; grown_over(&below) == Some((8, 1)) && below.counts().requests == 2);
 }
