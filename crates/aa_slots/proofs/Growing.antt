@@ -1,9 +1,10 @@
 -- The values of a map without free slots, when their block grows.
-use Rattle.aa_slots.proofs.Common.{AreHeld, Free, Held, List, None, Option, Some, State, [], arith, count, get_or, is_some, length, refl, seen, sym, take, true, ℕ, ⊤, ◌+◌, ◌∙◌, ◌∷◌, ◌≡◌, ◌<◌, ◌≤◌}
+use Rattle.aa_slots.proofs.Common.{AreHeld, Free, Held, List, None, Option, Some, State, [], ap, arith, count, drop, get_or, is_some, length, refl, seen, sym, take, true, ℕ, ⊤, ◌++◌, ◌+◌, ◌∙◌, ◌∷◌, ◌≡◌, ◌<◌, ◌≤◌}
 use Rattle.aa_slots.proofs.Finds.{count-cons}
 use Rattle.aa_slots.proofs.Seen.{held-within, length-seen, seen-same}
-use Rattle.allocator_api2.specs.Places.{IsRun}
-use Rattle.std.proofs.lemmas.List.{get_or-take}
+use Rattle.allocator_api2.specs.Places.{IsRun, with_run}
+use Rattle.std.proofs.Math.Seq.{take-append_seam}
+use Rattle.std.proofs.lemmas.List.{get_or-take, length-take-le}
 use Rattle.std.proofs.lemmas.List.Sums.{count_by-le-length}
 use Rattle.std.specs.List.{list_all}
 
@@ -44,6 +45,28 @@ module _ {T : Type 0} where
     held-first held i h =
         rw (first-same (length ss) cs ds same i (held-within ss i h)) (held i h)
 
+  -- values that were moved at once
+  module _ (ss : List State) (cs ds : List (Option (⊤ × T))) (n : ℕ) (long : n ≡ length ss)
+      (within : length ss ≤ length cs) where
+    abbrev moved : List (Option (⊤ × T))
+    moved = with_run ds 0 n (take n (drop 0 cs))
+
+    first-moved : take (length ss) moved ≡ take (length ss) cs
+    unfolding with_run
+    first-moved =
+        let count : length (take n cs) ≡ n = length-take-le n cs (omega (arith, long, within)) in
+        let none : 0 + n ≡ n = omega arith in
+        rw (none, ← long) (ap (λ m. take m (take n cs ++ drop n ds)) (sym count)
+        ∙ take-append_seam (take n cs) (drop n ds))
+
+    pub seen-moved : seen ss moved ≡ seen ss cs
+    seen-moved = seen-first ss cs moved first-moved
+
+    pub held-moved : AreHeld ss cs → AreHeld ss moved
+    held-moved = held-first ss cs moved first-moved
+
 pub ruleset full = (run-filled)
+
+pub ruleset transferred = (seen-moved, held-moved)
 
 pub ruleset same = (seen-first, held-first)

@@ -169,7 +169,7 @@ module _ (Y Z X : RattleType) (g : alloc.Ghosts Z.Denot) where
             qed 𝓛 (‵ (part_at Bk full_share (written ws) rb (ro + block_at)) ∷ ‵ (fsep Index Others) ∷ raw Gaps ∷ []) ∵
             use3 𝓛 (‵ (part_at In full_share n rb ro)) (field_back 𝓛 full_share [] ms (written ws, (a.slots, (a.free, (a.issued, (a.moves, (a.kind, tt)))))) rb ro 0) $
             use1 𝓛 (‵ ((mem Mp).own_at (next ws) rb ro)) (Plain-in Mp In (map_laws.the_opens V A C g) 𝓛 full_share (next ws) n
-            (view_made In D Mp.coded (view Y.Denot Z.Denot X.Denot g) (invariant Y.Denot Z.Denot X.Denot g) 𝓛 (next ws) n (refl, (stays-lent viewed.1.0 ws, record { moved = viewed.1.1.moved; each = rw (length-with_values a.values.places ws) viewed.1.1.each; once = viewed.1.1.once }))) rb ro) $
+            (view_made In D Mp.coded (view Y.Denot Z.Denot X.Denot g) (invariant Y.Denot Z.Denot X.Denot g) 𝓛 (next ws) n (refl, (stays-lent viewed.1.0 ws, record { moved = viewed.1.1.moved; each = rw (length-with_values a.values.places ws) viewed.1.1.each; once = viewed.1.1.once; policy = viewed.1.1.policy }))) rb ro) $
             rewrite ! 0 (λ (u : D). ‵ ((mem Mp).own_at u rb ro)) (sym (fixed ws)) refl $ done !
 
         module _ (κ : Lft) (δ tie₀ tie : GName) (u : Gv) where

@@ -2,6 +2,7 @@ pub mod Chains
 pub mod Cloning
 pub mod Common
 pub mod Draining
+pub mod Extracting
 pub mod Passing
 pub mod Finds
 pub mod Growing

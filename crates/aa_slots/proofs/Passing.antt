@@ -33,7 +33,7 @@ module _ {T : Type 0} where
       (λ i c d. slot-free ss cs i (free i c (omega (arith, d, e, length-seen ss cs)))) in
       ap (λ l. option_map (λ e. e.0) (slice_get l 0)) (sym none ∙ rest-onward (seen ss cs) from)
 
-  entries-append : (i : ℕ) (xs ys : List (Option (ℕ × T))) → entries_from i (xs ++ ys)
+  pub entries-append : (i : ℕ) (xs ys : List (Option (ℕ × T))) → entries_from i (xs ++ ys)
       ≡ entries_from i xs ++ entries_from (i + length xs) ys
   entries-append i [] ys = let same : i ≡ i + 0 = omega arith in ap (λ k. entries_from k ys) same
   entries-append i (None ∷ xs) ys = let same : i + 1 + length xs ≡ i + suc (length xs) =
@@ -167,16 +167,42 @@ module _ {T : Type 0} where
         ∙ entries-push 0 k (take k slots) (Some (key.serial, w)) long
         ∙ ap (λ l. l ++ (key, w) ∷ []) none-between
 
-    pub after-passed : (w : T) → entries_from (k + 1) (drop (k + 1) (written w)) ≡ drop 1 left
-    after-passed w =
+    -- the same if no value is left there
+    pub before-freed : entries_from 0 (take (k + 1) (slice_set slots k None))
+        ≡ entries_from 0 (take at slots)
+    before-freed =
+        let long : k
+        ≡ 0 + length (take k slots) =
+        omega (arith, below, length-take-le k slots (omega (arith, below))) in
+        ap (entries_from 0) (take_more_set slots k None below)
+        ∙ entries-push 0 k (take k slots) None long
+        ∙ append-nil (entries_from 0 (take k slots))
+        ∙ none-between
+
+    pub after-set : (o : Option (ℕ × T)) → entries_from (k + 1) (drop (k + 1) (slice_set slots k o))
+        ≡ drop 1 left
+    after-set o =
         let next : k + 1 ≡ suc k = omega arith in let far : suc k
         ≡ at + suc first.place.n = omega (arith, lies) in
         ap (entries_from (k + 1))
-        (drop-set-lt (k + 1) slots k (Some (key.serial, w)) (omega arith))
+        (drop-set-lt (k + 1) slots k o (omega arith))
         ∙ ap (λ i. entries_from i (drop i slots)) next
         ∙ ap (λ i. entries_from (suc k) (drop i slots)) far
         ∙ ap (entries_from (suc k)) (sym (drop-drop (suc first.place.n) at slots))
         ∙ first.place.rest ∙ sym (ap (drop 1) first.is)
+
+    pub after-passed : (w : T) → entries_from (k + 1) (drop (k + 1) (written w)) ≡ drop 1 left
+    after-passed w = after-set (Some (key.serial, w))
+
+    -- the first pair by the value of its key
+    pub left-is : (v : T) → value_under key.serial (slot_at slots k) ≡ Some v
+        → left ≡ (key, v) ∷ drop 1 left
+    left-is v h =
+        let both : Some first.x ≡ Some v =
+        sym (ap (λ l. option_map (λ e. e.1) (slice_get l 0)) first.is) ∙ sym finds-first ∙ h in
+        let same : first.x ≡ v = cc in
+        first.is ∙ (λ j. (key, same j) ∷ first.rest)
+        ∙ ap (λ l. (key, v) ∷ l) (sym (ap (drop 1) first.is))
 
     pub whole-passed : (w : T) → entries_from 0 (written w)
         ≡ entries_from 0 (take (k + 1) (written w))

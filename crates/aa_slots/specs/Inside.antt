@@ -1,9 +1,10 @@
 -- The invariant of the fields of a slot map, and their view.
-use Rattle.std.specs.Prelude.{◌≡◌, ℕ, ◌+◌, ◌-◌, ◌/◌, ◌%◌, ◌^◌, ◌<◌, ◌≤◌, ◌==◌, ◌≢◌, Bool, true, false, ⊤, List, [], ◌∷◌, length, take, drop, Option, None, Some, min, nat_eq, slice_get, slice_index_or, get_or, if◌then◌else◌}
+use Rattle.std.specs.Prelude.{◌≡◌, ℕ, ◌+◌, ◌-◌, ◌/◌, ◌%◌, ◌^◌, ◌<◌, ◌≤◌, ◌==◌, ◌≢◌, Bool, true, false, ⊤, List, [], ◌∷◌, length, take, drop, Option, None, Some, IfSome, min, nat_eq, slice_get, slice_index_or, get_or, if◌then◌else◌}
 use Rattle.std.specs.List.{IsDistinct}
 use Rattle.allocator_api2.specs.Block.{Block}
 use Rattle.allocator_api2.specs.Places.{IsFilled}
 use Rattle.allocator_api2.specs.Vector.{Vector}
+use Rattle.allocator_api2.specs.declared.raw_vec.Growth.{Growth}
 use Rattle.allocator_api2.specs.declared.raw_vec.Growth.TheVariants.{InPlace}
 use Rattle.aa_slots.specs.declared.key.KeyData.{KeyData}
 use Rattle.aa_slots.specs.declared.slots.Chain.{Chain}
@@ -53,6 +54,10 @@ capacity_of (Some v) = v.capacity
 abbrev pub blocks_of : {A : Type 0} → Option (Vector State A) → ℕ
 blocks_of None = 0
 blocks_of (Some v) = v.grown.blocks
+
+-- the block for the slots of a map, if it has allocated one, grows by the policy `g`
+abbrev pub HasPolicy : {A : Type 0} → Option (Vector State A) → (g : Growth) → Type 0
+HasPolicy slots g = IfSome slots (λ v. v.growth ≡ g)
 
 -- how many growths the block of the values with `n` places may be ahead of that of `c` slots
 abbrev pub ahead : (c n : ℕ) → ℕ
@@ -123,12 +128,13 @@ module _ {T : Type 0} where
 
   -- the map grew or shrank `moves` times, as often as the block of the slots; that of the values
   -- cost no more blocks, but for one if it has more places; unless the policy is `InPlace`, it did
-  -- not grow since it was made
+  -- not grow since it was made; both blocks have the same policy
   pub record MoveTogether {A : Type 0} (slots : Option (Vector State A)) (values : Block (⊤ × T) A)
       (moves : ℕ) : Type 0 where
     pub moved : moves ≡ blocks_of slots
     pub each : values.grown.blocks ≤ moves + ahead (capacity_of slots) (length values.places)
     pub once : values.growth ≢ InPlace → values.grown.blocks ≤ min 1 (capacity_of slots)
+    pub policy : HasPolicy slots values.growth
 
   -- the view of slots and the block of their values, after `issued` keys were issued
   abbrev pub view_of : {A : Type 0} → Option (Vector State A) → Block (⊤ × T) A

@@ -7,6 +7,7 @@ pub mod Iterating
 pub mod Retaining
 pub mod Draining
 pub mod Passing
+pub mod Extracting
 pub mod CursorLends
 pub mod IterMutLends
 pub mod IterMut

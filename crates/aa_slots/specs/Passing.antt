@@ -1,9 +1,9 @@
 -- A cursor over the values of a slot map, as contracts see it.
 use base.Fml.{GName}
-use Rattle.std.specs.Prelude.{◌+◌, List, [], ◌∷◌, take, drop}
+use Rattle.std.specs.Prelude.{◌+◌, List, [], ◌∷◌}
 use Rattle.aa_slots.specs.declared.cursor.CursorMut.{CursorMut}
 use Rattle.aa_slots.specs.declared.key.KeyData.{KeyData}
-use Rattle.aa_slots.specs.Slotted.{Slotted, entries_from, with_value}
+use Rattle.aa_slots.specs.Slotted.{Slotted, pairs_before, pairs_from, with_value}
 
 module _ {T : Type 0} where
   -- the key of the first of the pairs `es`, of which there is one
@@ -22,11 +22,11 @@ module _ {T A K : Type 0} where
 
   -- the keys and values before the cursor `c`
   abbrev pub before : CursorMut T A K → List (KeyData × T)
-  before c = entries_from 0 (take c.at c.map.now.slots)
+  before c = pairs_before c.map.now.slots c.at
 
   -- the keys and values after the cursor `c`
   abbrev pub remaining : CursorMut T A K → List (KeyData × T)
-  remaining c = entries_from c.at (drop c.at c.map.now.slots)
+  remaining c = pairs_from c.map.now.slots c.at
 
   -- the cursor `c` after it passed a value, in place of which `w` was written
   abbrev pub passed : CursorMut T A K → T → CursorMut T A K

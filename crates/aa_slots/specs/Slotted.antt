@@ -1,9 +1,9 @@
 -- The view of a slot map.
-use Rattle.std.specs.Prelude.{◌≡◌, ℕ, zero, suc, ◌+◌, ◌-◌, ◌/◌, ◌≤◌, ◌&&◌, ◌==◌, Bool, max, List, [], ◌∷◌, length, count_by, is_some, Option, None, Some, nat_eq, nat_le, if◌then◌else◌, slice_index_or, slice_set}
+use Rattle.std.specs.Prelude.{◌≡◌, ℕ, zero, suc, ◌+◌, ◌-◌, ◌≤◌, ◌&&◌, ◌==◌, Bool, List, [], ◌∷◌, length, count_by, is_some, Option, None, Some, nat_eq, nat_le, if◌then◌else◌, slice_index_or, slice_set, take, drop}
 use Rattle.std.specs.Cmp.Lexicographic.{pointwise}
 use Rattle.std.specs.List.{AllZip}
+use Rattle.allocator_api2.specs.Growth.{amortized}
 use Rattle.allocator_api2.specs.declared.raw_vec.Growth.{Growth}
-use Rattle.allocator_api2.specs.declared.raw_vec.Growth.TheVariants.{Doubling, Sparing, InPlace}
 use Rattle.aa_slots.specs.declared.key.KeyData.{KeyData}
 
 -- the view of a slot map: its slots, each free or with the serial of a key and its value; the
@@ -16,19 +16,18 @@ pub record Slotted (T : Type 0) : Type 0 where
   pub resizes : ℕ  -- each time to two: of the slots and of the values
   pub issued : ℕ
 
--- the number of slots that the policy `g` adds to `c` full ones, if these are enough
-abbrev pub added_by : (g : Growth) → (c : ℕ) → ℕ
-added_by Doubling c = c
-added_by Sparing c = c - c / 2
-added_by InPlace c = c
-
--- the capacity of a map of `c` slots, all full, after it has grown by the policy `g`
+-- the capacity of a map of `c` slots, all full, after it has grown by the policy `g`, by 4 at least
 abbrev pub grown : (g : Growth) → (c : ℕ) → ℕ
-grown g c = c + max (added_by g c) 4
+grown g c = amortized g c 0 (c + 4)
 
 -- the number of resizes of a new map with the capacity `c`
 abbrev pub fresh_resizes : (c : ℕ) → ℕ
 fresh_resizes c = if c == 0 then 0 else 1
+
+-- an empty map in new blocks for `n` values that grow by the policy `g`, which has issued no keys
+abbrev pub empty : {T : Type 0} → (n : ℕ) → (g : Growth) → Slotted T
+empty n g =
+    record { slots = []; capacity = n; growth = g; resizes = fresh_resizes n; issued = 0 }
 
 -- the number of resizes of a map with `n` slots and the capacity `c` after it shrank to these: the
 -- old number `r` if `c` is `n`, else also those of a new map
@@ -69,6 +68,14 @@ module _ {T : Type 0} where
   -- the keys and values of the map `m`, in the order of the slots
   abbrev pub entries : Slotted T → List (KeyData × T)
   entries m = entries_from 0 m.slots
+
+  -- the keys and values in the slots of `ss` before index `at`
+  abbrev pub pairs_before : (ss : List (Option (ℕ × T))) → (at : ℕ) → List (KeyData × T)
+  pairs_before ss at = entries_from 0 (take at ss)
+
+  -- the keys and values in the slots of `ss` from index `at` on
+  abbrev pub pairs_from : (ss : List (Option (ℕ × T))) → (at : ℕ) → List (KeyData × T)
+  pairs_from ss at = entries_from at (drop at ss)
 
   -- the map `m` has spare capacity for `k` more values
   abbrev pub HasRoom : Slotted T → (k : ℕ) → Type 0

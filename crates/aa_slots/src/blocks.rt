@@ -3,9 +3,10 @@ ghost use Rattle.std.specs.Prelude.{◌≡◌, ◌≢◌, ◌<◌, ◌≤◌, �
 ghost use Rattle.std.specs.Mem.{type_size};
 ghost use Rattle.allocator_api2.specs.Errors.{ClonesFail, IsErrorFor};
 ghost use Rattle.allocator_api2.specs.Places.{AreEmpty, IsRun};
-ghost use Rattle.aa_slots.specs.Inside.{ahead, blocks_of, capacity_of, seen, states_of, AreClones, AreHeld, AreHeldBetween, MoveTogether};
-ghost use Rattle.aa_slots.specs.Slotted.{added_by, count, fresh_resizes, shrunk_resizes};
+ghost use Rattle.aa_slots.specs.Inside.{ahead, blocks_of, capacity_of, seen, states_of, AreClones, AreHeld, AreHeldBetween, HasPolicy, MoveTogether};
+ghost use Rattle.aa_slots.specs.Slotted.{count, fresh_resizes, grown, shrunk_resizes};
 ghost use Rattle.allocator_api2.specs.declared.collections.TryReserveErrorKind.TheVariants.{AllocError};
+ghost use Rattle.allocator_api2.specs.declared.raw_vec.Growth.{Growth};
 ghost use Rattle.allocator_api2.specs.declared.raw_vec.Growth.TheVariants.{InPlace};
 
 use crate::slots::{Slot, State, capacity_in, slots_in};
@@ -22,14 +23,15 @@ pub fn alloc_error(capacity: usize) -> TryReserveError
     TryReserveErrorKind::AllocError { capacity }.into()
 }
 
-/// Returns the number of slots that the policy adds to `capacity` full ones, if these are enough.
+/// Returns the number of slots that the policy adds to `capacity` full ones, which is 4 at least.
 pub fn added_by(growth: Growth, capacity: usize) -> usize
-    ensures { result ≡ added_by growth capacity }
+    ensures { capacity + result ≡ grown growth capacity }
 {
-    match growth {
+    let more = match growth {
         Growth::Doubling | Growth::InPlace => capacity,
         Growth::Sparing => capacity - capacity / 2,
-    }
+    };
+    more.max(4)
 }
 
 /// Drops the values of the slots from `from` on and before `end`, one by one.
@@ -73,6 +75,31 @@ fn move_all<T, A: Allocator>(
     }
 }
 
+// Moves all values to other places of the same index, at once if no slot is `free`.
+#[tactic(auto, using(allocator_api2::proofs::Blocks::in_runs, crate::proofs::Growing::full, crate::proofs::Growing::transferred))]
+fn move_values<T, A: Allocator>(
+    slots: &[Slot],
+    from: &mut RawVec<((), T), A>,
+    to: &mut RawVec<((), T), A>,
+    free: usize,
+)
+    requires held { AreHeld slots.now from.old.places }
+    requires counted { free + count (seen slots.now from.old.places) ≡ length slots.now }
+    requires places { length slots.now ≤ length from.old.places }
+    requires room { length slots.now ≤ length to.old.places }
+    ensures held { AreHeld slots.now to.new.places }
+    ensures moved { seen slots.now to.new.places ≡ seen slots.now from.old.places }
+    ensures room { length to.new.places ≡ length to.old.places }
+    ensures counts { to.new.grown ≡ to.old.grown }
+    ensures growth { to.new.growth ≡ to.old.growth }
+{
+    if free == 0 {
+        to.transfer(0, from, 0, slots.len());
+    } else {
+        move_all(slots, from, to);
+    }
+}
+
 /// Counts a move to blocks for `capacity` slots as one of `moves`, unless there are none.
 #[inline(always)]
 pub fn count_move(moves: &mut Counter, capacity: usize)
@@ -84,6 +111,7 @@ pub fn count_move(moves: &mut Counter, capacity: usize)
 }
 
 // Moves all values to the block `fresh`, which was made for `capacity` slots, and frees their own.
+// Of the slots, `free` have no value.
 //
 // Counts this as one of `moves`, unless `capacity` is 0.
 #[tactic(auto, using(allocator_api2::proofs::Blocks::emptied))]
@@ -91,10 +119,13 @@ fn move_to<T, A: Allocator>(
     slots: &[Slot],
     values: &mut RawVec<((), T), A>,
     mut fresh: RawVec<((), T), A>,
+    free: usize,
     capacity: usize,
     moves: &mut Counter,
 )
     requires held { AreHeld slots.now values.old.places }
+    requires counted { free + count (seen slots.now values.old.places) ≡ length slots.now }
+    requires places { length slots.now ≤ length values.old.places }
     requires room { length slots.now ≤ length fresh.places }
     ensures held { AreHeld slots.now values.new.places }
     ensures moved { seen slots.now values.new.places ≡ seen slots.now values.old.places }
@@ -103,7 +134,7 @@ fn move_to<T, A: Allocator>(
     ensures growth { values.new.growth ≡ fresh.growth }
     ensures counted { moves.new.count ≡ moves.old.count + fresh_resizes capacity }
 {
-    move_all(slots, values, &mut fresh);
+    move_values(slots, values, &mut fresh, free);
     values.forget_from(0);
     *values = fresh;
     count_move(moves, capacity);
@@ -134,8 +165,8 @@ fn block_for<E, A: Allocator + Clone>(
     Ok(made)
 }
 
-// Reserves exactly `capacity` slots, more than there is memory for. The first ones are in a vector
-// with this growth policy.
+// Reserves exactly `capacity` slots, more than there is memory for, in a vector with this growth
+// policy.
 fn reserve_slots<A: Allocator + Clone>(
     slots: &mut Option<Vec<Slot, A>>,
     growth: Growth,
@@ -144,7 +175,9 @@ fn reserve_slots<A: Allocator + Clone>(
 ) -> Result<(), TryReserveError>
     requires within { length (states_of slots.old) ≤ capacity_of slots.old }
     requires more { capacity_of slots.old < capacity }
+    requires same { HasPolicy slots.old growth }
     ensures slots { states_of slots.new ≡ states_of slots.old }
+    ensures growth { HasPolicy slots.new growth }
     ensures room { OnOk result (capacity_of slots.new ≡ capacity) }
     ensures counted { OnOk result (blocks_of slots.new ≡ blocks_of slots.old + 1) }
     ensures error { IfErr result (ClonesFail (A.is_infallible alloc.now) capacity 8) }
@@ -211,7 +244,7 @@ pub fn reserve<T, A: Allocator + Clone>(
     }
     let fresh = block_for(values, capacity)?;
     reserve_slots(slots, values.growth(), values.allocator(), capacity)?;
-    move_to(slots_in(slots), values, fresh, capacity, moves);
+    move_to(slots_in(slots), values, fresh, free, capacity, moves);
     Ok(())
 }
 
@@ -252,6 +285,7 @@ fn extend<T, A: Allocator + Clone>(
     requires same_capacity { length values.old.places < capacity
         → capacity_of slots.old ≡ length values.old.places }
     requires more { capacity_of slots.old < capacity }
+    requires same { HasPolicy slots.old values.old.growth }
 
     // The slots and their values are unchanged, each value in its place.
     ensures slots { states_of slots.new ≡ states_of slots.old }
@@ -262,6 +296,7 @@ fn extend<T, A: Allocator + Clone>(
     // There is memory for more slots on success, and for as many as before on an error.
     ensures places { capacity_of slots.new ≤ length values.new.places }
     ensures growth { values.new.growth ≡ values.old.growth }
+    ensures same { HasPolicy slots.new values.new.growth }
     ensures together { moves.new.count ≡ blocks_of slots.new }
     ensures bound { values.new.grown.blocks
         ≤ moves.new.count + ahead (capacity_of slots.new) (length values.new.places) }
@@ -280,7 +315,7 @@ fn extend<T, A: Allocator + Clone>(
 /// Shrinks the memory to that for exactly the slots that there are.
 ///
 /// Moves both to smaller blocks, unless there is memory for no more slots. Counts this as one of
-/// `moves`, unless there are no slots.
+/// `moves`, unless there are no slots. Of the slots, `free` have no value.
 ///
 /// # Errors
 /// `AllocError` with the number of slots. Both blocks are unchanged.
@@ -288,9 +323,12 @@ fn extend<T, A: Allocator + Clone>(
 pub fn shrink<T, A: Allocator + Clone>(
     slots: &mut Vec<Slot, A>,
     values: &mut RawVec<((), T), A>,
+    free: usize,
     moves: &mut Counter,
 ) -> Result<(), TryReserveError>
     requires held { AreHeld slots.old.items values.old.places }
+    requires counted { free + count (seen slots.old.items values.old.places)
+        ≡ length slots.old.items }
     requires within { length slots.old.items ≤ slots.old.capacity }
     requires places { slots.old.capacity ≤ length values.old.places }
     requires together { MoveTogether (Some slots.old) values.old moves.old.count }
@@ -319,7 +357,7 @@ pub fn shrink<T, A: Allocator + Clone>(
     }
     let fresh = block_for(values, len)?;
     slots.shrink_to_fit()?;
-    move_to(slots.as_slice(), values, fresh, len, moves);
+    move_to(slots.as_slice(), values, fresh, free, len, moves);
     Ok(())
 }
 
@@ -331,6 +369,7 @@ pub fn clone_slots<A: Allocator + Clone>(
     ensures capacity { IfOk result (λ copy. capacity_of copy ≡ length (states_of slots.now)) }
     ensures blocks { IfOk result
         (λ copy. blocks_of copy ≡ fresh_resizes (length (states_of slots.now))) }
+    ensures growth { (g : Growth) → HasPolicy slots.now g → IfOk result (λ copy. HasPolicy copy g) }
     ensures fits { ((a : A) → A.is_infallible a) → states_of slots.now ≡ [] → IsOk result }
     ensures error { IfErr result
         (ClonesFail ((a : A) → A.is_infallible a) (length (states_of slots.now)) 8) }

@@ -4,7 +4,7 @@ ghost use Rattle.std.specs.Borrow.{sem};
 ghost use Rattle.std.specs.Option.{option_copied_mut};
 ghost use Rattle.allocator_api2.specs.Errors.{IsErrorFor};
 ghost use Rattle.aa_slots.specs.Iterating.{YieldsPairsInOrder, YieldsPairsInReverse};
-ghost use Rattle.aa_slots.specs.Slotted.{cleared, count, entries, entries_from, find, grown, with_room, without, HasRoom, Puts};
+ghost use Rattle.aa_slots.specs.Slotted.{cleared, count, empty, entries, entries_from, find, grown, with_room, without, HasRoom, Puts};
 ghost use Rattle.aa_slots.specs.declared.key.KeyData.{KeyData};
 
 use crate::blocks::{added_by, drop_between};
@@ -25,6 +25,7 @@ mod capacity;
 mod clone;
 mod compare;
 pub mod drain;
+pub mod extract_if;
 mod insert;
 mod into;
 mod lend;
@@ -92,11 +93,7 @@ impl<T, A: Allocator> SlotMap<T, A> {
     ///
     /// Does not allocate.
     pub fn new_in(alloc: A) -> Self
-        ensures slots { result.slots ≡ [] }
-        ensures capacity { result.capacity ≡ 0 }
-        ensures growth { result.growth ≡ Doubling }
-        ensures resizes { result.resizes ≡ 0 }
-        ensures issued { result.issued ≡ 0 }
+        ensures { result ≡ empty 0 Doubling }
     {
         SlotMap::with_key_in(alloc)
     }
@@ -106,11 +103,7 @@ impl<T, A: Allocator> SlotMap<T, A> {
     /// Does not allocate. By the policy `InPlace`, both blocks of a full map grow in place, if its
     /// allocator can.
     pub fn with_growth_in(growth: Growth, alloc: A) -> Self
-        ensures slots { result.slots ≡ [] }
-        ensures capacity { result.capacity ≡ 0 }
-        ensures growth { result.growth ≡ growth }
-        ensures resizes { result.resizes ≡ 0 }
-        ensures issued { result.issued ≡ 0 }
+        ensures { result ≡ empty 0 growth }
     {
         SlotMap::with_growth_and_key_in(growth, alloc)
     }
@@ -125,11 +118,7 @@ impl<T, A: Allocator, K> SlotMap<T, A, K> {
     ///
     /// Does not allocate.
     pub fn with_key_in(alloc: A) -> Self
-        ensures slots { result.slots ≡ [] }
-        ensures capacity { result.capacity ≡ 0 }
-        ensures growth { result.growth ≡ Doubling }
-        ensures resizes { result.resizes ≡ 0 }
-        ensures issued { result.issued ≡ 0 }
+        ensures { result ≡ empty 0 Doubling }
     {
         SlotMap::with_growth_and_key_in(Growth::Doubling, alloc)
     }
@@ -139,11 +128,7 @@ impl<T, A: Allocator, K> SlotMap<T, A, K> {
     ///
     /// Does not allocate. The policy is that of `with_growth_in`.
     pub fn with_growth_and_key_in(growth: Growth, alloc: A) -> Self
-        ensures slots { result.slots ≡ [] }
-        ensures capacity { result.capacity ≡ 0 }
-        ensures growth { result.growth ≡ growth }
-        ensures resizes { result.resizes ≡ 0 }
-        ensures issued { result.issued ≡ 0 }
+        ensures { result ≡ empty 0 growth }
     {
         SlotMap {
             values: RawVec::with_growth_in(growth, alloc),
@@ -313,8 +298,7 @@ impl<T: Drop, A: Allocator + Clone, K> SlotMap<T, A, K> {
         ensures error { IfErr result (λ e. IsErrorFor e (grown self.old.growth self.old.capacity)) }
         ensures unchanged { OnErr result (self.new ≡ self.old) }
     {
-        let more = added_by(self.growth(), self.len());
-        self.reserve(more.max(4))
+        self.reserve(added_by(self.growth(), self.len()))
     }
 
     /// Inserts `value` and returns its key, which was not issued before.

@@ -205,6 +205,7 @@ fn put_first<T, A: Allocator>(
         (seen slots.new.items values.new.places) }
     ensures capacity { slots.new.capacity ≡ slots.old.capacity }
     ensures counts { slots.new.grown ≡ slots.old.grown }
+    ensures same { slots.new.growth ≡ slots.old.growth }
     ensures value_counts { values.new.grown ≡ values.old.grown }
     ensures growth { values.new.growth ≡ values.old.growth }
     ensures places { length values.new.places ≡ length values.old.places }
@@ -240,6 +241,7 @@ fn push_new<T, A: Allocator>(
         (seen slots.new.items values.new.places) }
     ensures capacity { slots.new.capacity ≡ slots.old.capacity }
     ensures counts { slots.new.grown ≡ slots.old.grown }
+    ensures same { slots.new.growth ≡ slots.old.growth }
     ensures value_counts { values.new.grown ≡ values.old.grown }
     ensures growth { values.new.growth ≡ values.old.growth }
     ensures places { length values.new.places ≡ length values.old.places }
@@ -286,6 +288,7 @@ pub fn put<T, A: Allocator>(
         (seen slots.new.items values.new.places) }
     ensures capacity { slots.new.capacity ≡ slots.old.capacity }
     ensures counts { slots.new.grown ≡ slots.old.grown }
+    ensures same { slots.new.growth ≡ slots.old.growth }
     ensures value_counts { values.new.grown ≡ values.old.grown }
     ensures growth { values.new.growth ≡ values.old.growth }
     ensures places { length values.new.places ≡ length values.old.places }
@@ -319,6 +322,7 @@ pub fn release<T, A: Allocator>(
         ≡ slice_set (seen slots.old.items values.old.places) at None }
     ensures capacity { slots.new.capacity ≡ slots.old.capacity }
     ensures counts { slots.new.grown ≡ slots.old.grown }
+    ensures same { slots.new.growth ≡ slots.old.growth }
     ensures value_counts { values.new.grown ≡ values.old.grown }
     ensures growth { values.new.growth ≡ values.old.growth }
     ensures places { length values.new.places ≡ length values.old.places }

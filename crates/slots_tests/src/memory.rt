@@ -98,3 +98,21 @@ fn drained_values_of_a_slot_map_are_dropped_once(rt: HostRuntime) {
     let drops = Cell::new(0);
     assert!(rt; drained_are_so(&heap, &drops) && drops.get() == 5 && is_all_freed(&heap));
 }
+
+// Whether an extraction drops the value that it removes, keeps the others, and allocates nothing.
+fn extracted_are_so<'a>(heap: &'a Faulty<Global>, drops: &'a Cell<u32>) -> bool {
+    let mut map: Slots<'a> = SlotMap::new_in(heap);
+    let before = five_come(&mut map, drops);
+    let requests = heap.requests();
+    let mut pairs = map.extract_if(|_, _| true);
+    drop(pairs.next());
+    drop(pairs);
+    (before, drops.get(), map.len()) == (1, 2, 3) && heap.requests() == requests
+}
+
+#[test]
+fn extracted_values_of_a_slot_map_are_dropped_once(rt: HostRuntime) {
+    let heap = Faulty::new(rt.alloc());
+    let drops = Cell::new(0);
+    assert!(rt; extracted_are_so(&heap, &drops) && drops.get() == 5 && is_all_freed(&heap));
+}

@@ -4,6 +4,7 @@ use aa_slots::map::{Key, SlotMap};
 use aa_table::set::Set;
 use allocator_api2::collections::TryReserveErrorKind;
 use allocator_api2::raw_vec::Growth;
+use allocator_api2::vec::Vec;
 use std::alloc::{AllocError, Global};
 use std::default::{Emptied, MadeWith};
 use std::mem::forget;
@@ -419,6 +420,56 @@ fn values_are_retained_by_a_closure(rt: HostRuntime) {
     let (four, five) = (put(&mut map, 4), put(&mut map, 5));
     assert!(rt; keeps_odd(&mut map) == 4 && map.len() == 3 && heap.requests() == 2);
     assert!(rt; finds_any(&map, four) == None && finds_any(&map, five) == Some(6));
+}
+
+// Whether a value is even. Adds four to one that is not.
+fn is_even(value: &mut u32) -> bool {
+    let even = *value % 2 == 0;
+    if !even {
+        *value = value.wrapping_add(4);
+    }
+    even
+}
+
+// Removes the first even value, and returns it and how many were not tested.
+fn first_extracted(map: &mut Small<'_>) -> (Option<(Key, u32)>, Option<usize>) {
+    let mut evens = map.extract_if(|_, value| is_even(value));
+    let first = evens.next();
+    (first, evens.size_hint().1)
+}
+
+// Removes all even values, and returns the first of them.
+fn evens_extracted<'a>(map: &mut Small<'a>, heap: &'a Faulty<Global>) -> Option<(Key, u32)> {
+    let evens = map.extract_if(|_, value| is_even(value));
+    let all: Vec<(Key, u32), &'a Faulty<Global>> = evens.collect(heap).ok()?;
+    all.first().copied()
+}
+
+// Removes the first even value by a closure that also counts its calls; returns it and the count.
+fn extracted_by(map: &mut Small<'_>) -> (Option<u32>, u32) {
+    let mut calls = 0u32;
+    let mut count = |_: Key, value: &mut u32| {
+        calls = calls.wrapping_add(1);
+        is_even(value)
+    };
+    let mut evens = map.extract_by();
+    let first = evens.next_by(&mut count).map(|(_, value)| value);
+    (first, calls)
+}
+
+#[test]
+fn values_are_extracted_by_a_closure(rt: HostRuntime) {
+    let heap = Faulty::new(rt.alloc());
+    let mut map = one_and_three(&heap);
+    let four = put(&mut map, 4);
+    let (six, eight) = (put(&mut map, 6), put(&mut map, 8));
+    let found = four.map(|key| (key, 4));
+    assert!(rt; first_extracted(&mut map) == (found, Some(2)) && map.len() == 4);
+    assert!(rt; finds_any(&map, four) == None && finds_any(&map, six) == Some(6));
+    assert!(rt; extracted_by(&mut map) == (Some(6), 3) && finds_any(&map, six) == None);
+    let found = eight.map(|key| (key, 8));
+    assert!(rt; evens_extracted(&mut map, &heap) == found && heap.requests() == 5);
+    assert!(rt; digits_drained(&mut map) == 145);
 }
 
 // Doubles the values from the front, and adds one to the last of them. Returns how many values there

@@ -1,8 +1,8 @@
 //! The capacity of a slot map.
-ghost use Rattle.std.specs.Prelude.{◌≡◌, ◌+◌, ◌-◌, [], length, IfErr, IfOk, IsOk, OnErr, OnOk};
+ghost use Rattle.std.specs.Prelude.{◌≡◌, ◌+◌, ◌-◌, length, IfErr, IfOk, IsOk, OnErr, OnOk};
 ghost use Rattle.allocator_api2.specs.Errors.{IsErrorFor};
 ghost use Rattle.allocator_api2.specs.declared.raw_vec.Growth.TheVariants.{Doubling};
-ghost use Rattle.aa_slots.specs.Slotted.{count, fresh_resizes, shrunk, with_room, HasRoom};
+ghost use Rattle.aa_slots.specs.Slotted.{count, empty, shrunk, with_room, HasRoom};
 
 use crate::blocks;
 use crate::map::SlotMap;
@@ -19,11 +19,7 @@ impl<T: Drop, A: Allocator + Clone> SlotMap<T, A> {
     /// `CapacityOverflow`, or `AllocError` with the number `capacity`, also if a clone of the
     /// allocator fails.
     pub fn with_capacity_in(capacity: usize, alloc: A) -> Result<Self, TryReserveError>
-        ensures slots { IfOk result (λ m. m.slots ≡ []) }
-        ensures issued { IfOk result (λ m. m.issued ≡ 0) }
-        ensures capacity { IfOk result (λ m. m.capacity ≡ capacity) }
-        ensures growth { IfOk result (λ m. m.growth ≡ Doubling) }
-        ensures resizes { IfOk result (λ m. m.resizes ≡ fresh_resizes capacity) }
+        ensures made { IfOk result (λ m. m ≡ empty capacity Doubling) }
         ensures fits { capacity ≡ 0 → IsOk result }
         ensures error { IfErr result (λ e. IsErrorFor e capacity) }
     {
@@ -41,11 +37,7 @@ impl<T: Drop, A: Allocator + Clone, K> SlotMap<T, A, K> {
     /// `CapacityOverflow`, or `AllocError` with the number `capacity`, also if a clone of the
     /// allocator fails.
     pub fn with_capacity_and_key_in(capacity: usize, alloc: A) -> Result<Self, TryReserveError>
-        ensures slots { IfOk result (λ m. m.slots ≡ []) }
-        ensures issued { IfOk result (λ m. m.issued ≡ 0) }
-        ensures capacity { IfOk result (λ m. m.capacity ≡ capacity) }
-        ensures growth { IfOk result (λ m. m.growth ≡ Doubling) }
-        ensures resizes { IfOk result (λ m. m.resizes ≡ fresh_resizes capacity) }
+        ensures made { IfOk result (λ m. m ≡ empty capacity Doubling) }
         ensures fits { capacity ≡ 0 → IsOk result }
         ensures error { IfErr result (λ e. IsErrorFor e capacity) }
     {
@@ -101,8 +93,9 @@ impl<T: Drop, A: Allocator + Clone, K> SlotMap<T, A, K> {
         ensures error { IfErr result (λ e. IsErrorFor e (length self.old.slots)) }
         ensures unchanged { OnErr result (self.new ≡ self.old) }
     {
+        let free = self.free.count;
         match &mut self.slots {
-            Some(slots) => blocks::shrink(slots, &mut self.values, &mut self.moves),
+            Some(slots) => blocks::shrink(slots, &mut self.values, free, &mut self.moves),
             None => Ok(()),
         }
     }

@@ -84,7 +84,7 @@ impl<T: Drop, A: Allocator, K> SlotMap<T, A, K> {
     }
 
     // Removes the value of `key`, which has one, and returns it.
-    fn take(&mut self, key: KeyData) -> T
+    pub(super) fn take(&mut self, key: KeyData) -> T
         requires { is_some (find self.old key) ≡ true }
         ensures value { find self.old key ≡ Some result }
         ensures removed { self.new ≡ without self.old key }

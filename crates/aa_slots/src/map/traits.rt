@@ -1,7 +1,8 @@
 //! A slot map as traits see it: values by their keys, empty maps, and debug output.
 ghost use Rattle.std.specs.Prelude.{◌≡◌, [], is_some, true, Some, IfOk, IsOk};
 ghost use Rattle.std.specs.Borrow.{sem};
-ghost use Rattle.aa_slots.specs.Slotted.{find};
+ghost use Rattle.allocator_api2.specs.declared.raw_vec.Growth.TheVariants.{Doubling};
+ghost use Rattle.aa_slots.specs.Slotted.{empty, find};
 
 use crate::iter::Iter;
 use crate::map::{Key, SlotMap};
@@ -46,7 +47,7 @@ impl<T: Drop, A: Allocator, K> IndexMut<Key<K>> for SlotMap<T, A, K> {
 }
 
 impl<T: Drop, A: Allocator, K> MadeWith<A> for SlotMap<T, A, K> {
-    ghost is_made_with = { λ m. (m.slots ≡ []) × (m.resizes ≡ 0) × (m.issued ≡ 0) };
+    ghost is_made_with = { λ m. m ≡ empty 0 Doubling };
 
     /// Returns an empty map as `new_in` does.
     fn made_with(alloc: A) -> Self {
@@ -59,7 +60,7 @@ impl<T: Drop, A: Allocator + Clone, K> Emptied for SlotMap<T, A, K> {
 
     /// Returns an empty map that has issued no keys, over a clone of the allocator of `like`.
     fn emptied(like: &Self) -> Result<Self, AllocError>
-        ensures made { IfOk result (λ m. (m.slots ≡ []) × (m.resizes ≡ 0) × (m.issued ≡ 0)) }
+        ensures made { IfOk result (λ m. m ≡ empty 0 Doubling) }
         ensures fits { ((a : A) → A.is_infallible a) → IsOk result }
     {
         Ok(SlotMap::with_key_in(like.values.allocator().clone()?))

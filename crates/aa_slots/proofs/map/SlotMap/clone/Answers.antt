@@ -38,7 +38,12 @@ invariant_of-result g c =
     let made = rw c.slots_in-all.ensures at c.in_ok-values.ensures.made in
     let room = rw c.slots_in-all.ensures at c.in_ok-values.ensures.room in (
       rw (c.in_ok-slots.ensures.slots, c.in_ok-slots.ensures.capacity) (sound-cloned _ _ _ _ _ c.self.invariant.0 made room),
-      search rules,
+      record {
+        moved = search rules;
+        each = search rules;
+        once = search rules;
+        policy = rw c.in_ok-values.ensures.growth (c.in_ok-slots.ensures.growth _ c.self.invariant.1.policy);
+      },
     )
 
 pub returns-clause-made : goal.returns-clause-made

@@ -16,7 +16,7 @@ invariant_of-self-lent g c w =
     let m = c.self.inside in
     let found : is_some (value_under c.data-key.result.serial (slot_at (seen (states_of m.slots) m.values.places) c.data-key.result.index)) ≡ true = search rules in (
       rewritten-sound c.self.invariant.0 c.data-key.result.index (ap is_some (has-key _ _ c.data-key.result.index c.data-key.result.serial found).slot) _,
-      record { moved = c.self.invariant.1.moved; each = rw (length-set m.values.places c.data-key.result.index _) c.self.invariant.1.each; once = c.self.invariant.1.once },
+      record { moved = c.self.invariant.1.moved; each = rw (length-set m.values.places c.data-key.result.index _) c.self.invariant.1.each; once = c.self.invariant.1.once; policy = c.self.invariant.1.policy },
     )
 
 pub returns-then-holds : goal.returns-then-holds
