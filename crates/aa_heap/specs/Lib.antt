@@ -1,2 +1,3 @@
 pub mod Heaps
 pub mod Drain
+pub mod Peek

@@ -166,7 +166,7 @@ impl<T: Ord, A: Allocator> Heap<T, A> {
             return None;
         }
         let greatest = self.vec.swap_remove(0);
-        order::sift_down(&mut self.vec);
+        order::sift_to_bottom(&mut self.vec);
         Some(greatest)
     }
 

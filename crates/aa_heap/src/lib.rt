@@ -4,4 +4,5 @@
 pub mod drain;
 pub mod heap;
 mod order;
+pub mod peek;
 mod sift;

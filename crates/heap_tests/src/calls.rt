@@ -1,14 +1,19 @@
 //! Each call once, and what it requests.
 use aa_heap::heap::Heap;
+use aa_heap::peek::PeekMut;
 use allocator_api2::vec::Vec;
 use std::alloc::{AllocError, Global};
 use std::default::{Emptied, MadeWith};
 use std::fmt::Debug;
 use std::iter::Extend;
+use std::rc::Rc;
 use test_allocators::Faulty;
 
 // A heap over an allocator that may fail.
 type Small<'a> = Heap<u64, &'a Faulty<Global>>;
+
+// A heap whose items can be counted by what they share.
+type Shares<'a> = Heap<Rc<u32>, &'a Faulty<Global>>;
 
 // Returns a heap of these numbers.
 fn heap_of<'a>(heap: &'a Faulty<Global>, numbers: &[u64]) -> Small<'a> {
@@ -164,4 +169,59 @@ fn copied(alloc: Global) -> Option<usize> {
 #[test]
 fn a_heap_is_copied(rt: HostRuntime) {
     assert!(rt; copied(rt.alloc()) == Some(2));
+}
+
+// Changes the greatest item to 3, and returns the one that comes first then.
+fn lowered(queue: &mut Small<'_>) -> Option<u64> {
+    if let Some(mut top) = queue.peek_mut() {
+        *top = 3;
+    }
+    queue.peek().copied()
+}
+
+// Takes the greatest item out if it is odd.
+fn take_odd(queue: &mut Small<'_>) -> Option<u64> {
+    match queue.peek_mut() {
+        Some(top) if *top % 2 == 1 => Some(PeekMut::pop(top)),
+        _ => None,
+    }
+}
+
+#[test]
+fn the_greatest_is_changed_or_taken(rt: HostRuntime) {
+    let heap = Faulty::new(rt.alloc());
+    let mut queue = heap_of(&heap, &[2, 7, 5]);
+    assert!(rt; lowered(&mut queue) == Some(5) && queue.len() == 3);
+    assert!(rt; take_odd(&mut queue) == Some(5) && take_odd(&mut queue) == Some(3));
+    assert!(rt; take_odd(&mut queue).is_none() && heap.requests() == 1 && has(queue, &[2]));
+    assert!(rt; heap_of(&heap, &[]).peek_mut().is_none());
+}
+
+// Returns a heap of two items that share `origin`.
+fn two_shares<'a>(heap: &'a Faulty<Global>, origin: &Rc<u32>) -> Option<Shares<'a>> {
+    let mut queue = Heap::with_capacity_in(2, heap).ok()?;
+    queue.push(origin.clone().ok()?).ok()?;
+    queue.push(origin.clone().ok()?).ok()?;
+    Some(queue)
+}
+
+// Looks at the first item, and then takes it out and drops it. Returns how many share `origin` after
+// each.
+fn shares_left(heap: &Faulty<Global>, origin: &Rc<u32>) -> Option<(usize, usize)> {
+    let mut queue = two_shares(heap, origin)?;
+    drop(queue.peek_mut()?);
+    let before = Rc::strong_count(origin);
+    drop(PeekMut::pop(queue.peek_mut()?));
+    Some((before, Rc::strong_count(origin)))
+}
+
+#[test]
+fn the_greatest_is_dropped_once(rt: HostRuntime) {
+    let heap = Faulty::new(rt.alloc());
+    let Ok(origin) = Rc::new(rt.alloc(), 7) else {
+        assert!(rt; false);
+        return;
+    };
+    assert!(rt; shares_left(&heap, &origin) == Some((3, 2)) && Rc::strong_count(&origin) == 1);
+    assert!(rt; heap.requests() == 1 && heap.outstanding() == 0);
 }

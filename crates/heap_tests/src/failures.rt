@@ -95,5 +95,5 @@ fn items_that_fit_need_no_memory(rt: HostRuntime) {
     if let Ok(mut queue) = Heap::with_capacity_in(3, &heap) {
         assert!(rt; turns(&mut queue) && heap.requests() == 1);
     }
-    assert!(rt; heap.requests() == 1 && heap.outstanding() == 0);
+    assert!(rt; heap.requests() == 1 && heap.failures() == 0 && heap.outstanding() == 0);
 }
