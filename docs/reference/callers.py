@@ -10,7 +10,7 @@ from words import CRATES, EXAMPLES, LESSONS, TOP, parted
 Caller = collections.namedtuple("Caller", "crate file name line text calls")
 SKIPPED = {"faulty"}
 # The crates of tests whose functions are quoted, too.
-TESTS = ["ex_tests", "table_tests", "ring_tests", "inline_tests", "slots_tests", "ordered_tests", "heap_tests", "layer_tests", "refusal_tests"]
+TESTS = ["ex_tests", "table_tests", "ring_tests", "inline_tests", "slots_tests", "ordered_tests", "ordered_set_tests", "heap_tests", "layer_tests", "refusal_tests"]
 # The layers that stand on the block. Their functions are quoted if no other calls an item, as a collection's own are.
 LAYERS = ["aa_boxed", "aa_vec", "aa_gap"]
 # The traits whose methods are called on a type of another crate, or of a parameter.

@@ -17,6 +17,7 @@ COLLECTIONS = {
     "aa_inline": ("A small vector", "EXAMPLES.html#a-small-vector"),
     "aa_slots": ("A slot map", "EXAMPLES.html#a-slot-map"),
     "aa_ordered": ("An ordered map", "EXAMPLES.html#an-ordered-map"),
+    "aa_ordered_set": ("An ordered set", "EXAMPLES.html#an-ordered-set"),
     "aa_heap": ("A priority queue", "EXAMPLES.html#a-heap"),
     "ex_small": ("An arena, a text builder, a line editor", "EXAMPLES.html#an-arena-by-handles"),
 }

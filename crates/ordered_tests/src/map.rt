@@ -391,4 +391,5 @@ fn an_absent_value_is_made(rt: HostRuntime) {
         assert!(rt; map.get_key_value(&3) == Some((&3, &4)) && map.get_key_value(&4).is_none());
         assert!(rt; map.allocator().requests() == 2);
     }
+    assert!(rt; heap.requests() == 2 && heap.failures() == 0);
 }

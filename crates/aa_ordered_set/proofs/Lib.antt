@@ -1,0 +1,4 @@
+pub mod Keys
+pub mod Sets
+pub mod Sifting
+pub mod Combining
