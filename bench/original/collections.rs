@@ -1,6 +1,6 @@
-//! The cases over Rust's own maps and queue, and over a gap buffer in plain Rust on its own vector.
+//! The cases over Rust's own maps, heap and queue, and over a gap buffer in plain Rust on its own vector.
 use super::checksum_from;
-use std::collections::{BTreeMap, HashMap, VecDeque};
+use std::collections::{BTreeMap, BinaryHeap, HashMap, VecDeque};
 use std::hash::{BuildHasherDefault, Hasher};
 
 /// The hasher that the toolchain's map has, for keys of 8 bytes: the product with a fixed number in 128 bits, its halves joined.
@@ -43,6 +43,7 @@ pub struct Held {
     table: Numbers,
     map: BTreeMap<u64, u64>,
     tree: Option<Box<Node>>,
+    heap: BinaryHeap<u64>,
     queue: VecDeque<u32>,
     text: GapBuffer,
     rows: Vec<Vec<u32>>,
@@ -55,7 +56,7 @@ impl Held {
     /// Fills the collection as the case finds it, and returns whether there is such a case.
     pub fn prepare(&mut self, case: &str, count: u32) -> bool {
         match case {
-            "table_insert" | "table_reserved" | "box_tree" | "slots_insert" | "slots_in_place" | "map_insert" => fill_keys(&mut self.keys, count, 0),
+            "table_insert" | "table_reserved" | "box_tree" | "slots_insert" | "slots_in_place" | "heap_push" | "map_insert" => fill_keys(&mut self.keys, count, 0),
             "table_hit" | "table_remove" | "table_iter" => self.fill_table(count),
             "table_iter_sparse" => self.fill_sparse(count),
             "table_miss" => {
@@ -70,6 +71,10 @@ impl Held {
             "map_get" | "map_remove" | "map_scan" => {
                 fill_keys(&mut self.keys, count, 0);
                 map_insert(&mut self.map, &self.keys);
+            }
+            "heap_pop" => {
+                fill_keys(&mut self.keys, count, 0);
+                heap_push(&mut self.heap, &self.keys);
             }
             "ring_queue" => ring_push(&mut self.queue, 100),
             "slots_get" | "slots_churn" => {
@@ -115,6 +120,8 @@ impl Held {
             "map_get" => self.sum = map_get(&self.map, &self.keys),
             "map_remove" => self.sum = map_remove(&mut self.map, &self.keys),
             "map_scan" => self.sum = map_scan(&self.map),
+            "heap_push" => heap_push(&mut self.heap, &self.keys),
+            "heap_pop" => self.sum = heap_pop(&mut self.heap),
             "ring_queue" => ring_queue(&mut self.queue, count),
             "ring_push" => ring_push(&mut self.queue, count),
             "ring_in_place" => ring_in_place(&mut self.queue, count),
@@ -138,6 +145,7 @@ impl Held {
             values.wrapping_mul(31).wrapping_add(self.table.get(key).copied().unwrap_or(0))
         });
         let values = self.map.iter().fold(values, |values, (key, value)| values.wrapping_mul(31).wrapping_add(key ^ value));
+        let values = self.heap.iter().fold(values, |values, key| values.wrapping_add(*key));
         let tree = tree_checksum(&self.tree, items.wrapping_add(values));
         let rows = self.rows.iter().fold(tree, |sum, row| checksum_from(sum, row));
         rows.wrapping_add(self.slots.sum())
@@ -294,6 +302,24 @@ fn map_scan(map: &BTreeMap<u64, u64>) -> u64 {
     let mut sum: u64 = 0;
     for (key, value) in map {
         sum = sum.wrapping_mul(31).wrapping_add(key ^ value);
+    }
+    sum
+}
+
+#[inline(never)]
+fn heap_push(heap: &mut BinaryHeap<u64>, keys: &[u64]) {
+    for key in keys {
+        heap.push(*key);
+    }
+}
+
+#[inline(never)]
+fn heap_pop(heap: &mut BinaryHeap<u64>) -> u64 {
+    let mut sum: u64 = 0;
+    for _ in 0..heap.len() {
+        if let Some(key) = heap.pop() {
+            sum = sum.wrapping_mul(31).wrapping_add(key);
+        }
     }
     sum
 }

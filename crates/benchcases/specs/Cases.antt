@@ -9,7 +9,7 @@ use Rattle.benchcases.specs.declared.case.Choice.TheVariants.{RetainHalf, Retain
 use Rattle.benchcases.specs.declared.case.Pieces.{Pieces}
 use Rattle.benchcases.specs.declared.case.Pieces.TheVariants.{OfFour, OfTwenty, Mixed, Written}
 use Rattle.benchcases.specs.declared.case.Collection.{Collection}
-use Rattle.benchcases.specs.declared.case.Collection.TheVariants.{TableInsert, TableHit, TableMiss, TableRemove, TableReserved, TableIter, TableIterSparse, BoxTree, BoxTreeFind, MapInsert, MapGet, MapRemove, MapScan, RingQueue, RingPush, RingInPlace, InlineFew, InlineRows, SlotsInsert, SlotsInPlace, SlotsGet, SlotsChurn}
+use Rattle.benchcases.specs.declared.case.Collection.TheVariants.{TableInsert, TableHit, TableMiss, TableRemove, TableReserved, TableIter, TableIterSparse, BoxTree, BoxTreeFind, MapInsert, MapGet, MapRemove, MapScan, HeapPush, HeapPop, RingQueue, RingPush, RingInPlace, InlineFew, InlineRows, SlotsInsert, SlotsInPlace, SlotsGet, SlotsChurn}
 use Rattle.benchcases.specs.declared.case.Use.{Use}
 use Rattle.benchcases.specs.declared.case.Use.TheVariants.{Serialise, Tokenize, Lines, Lru, Merge, DedupTexts, TextTable, InsertSorted, Grid, Boxes, Rows, Window}
 use Rattle.benchcases.specs.declared.case.Size.{Size}
@@ -58,6 +58,8 @@ name_of_collection MapInsert = codes "map_insert"
 name_of_collection MapGet = codes "map_get"
 name_of_collection MapRemove = codes "map_remove"
 name_of_collection MapScan = codes "map_scan"
+name_of_collection HeapPush = codes "heap_push"
+name_of_collection HeapPop = codes "heap_pop"
 name_of_collection RingQueue = codes "ring_queue"
 name_of_collection RingPush = codes "ring_push"
 name_of_collection RingInPlace = codes "ring_in_place"

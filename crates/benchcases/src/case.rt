@@ -123,8 +123,8 @@ pub enum Pieces {
     Written,
 }
 
-/// A call on a table or an ordered map from `u64` to `u64`, on a tree of boxes, on a queue, on a
-/// small vector or on a slot map.
+/// A call on a table or an ordered map from `u64` to `u64`, on a tree of boxes, on a heap, on a
+/// queue, on a small vector or on a slot map.
 ///
 /// Keys are in no regular order.
 #[derive(Clone, Copy, PartialEq, Drop)]
@@ -155,6 +155,10 @@ pub enum Collection {
     MapRemove,
     /// Visits each entry of an ordered map, in the order of the keys.
     MapScan,
+    /// Pushes keys onto an empty heap.
+    HeapPush,
+    /// Pops each key of a heap, the greatest first.
+    HeapPop,
     /// Pushes at the back of a queue of 100 numbers and pops at the front.
     RingQueue,
     /// Pushes at the back of an empty queue.
@@ -371,6 +375,8 @@ fn collection_of(name: &str) -> Option<Collection>
         "map_get" => Collection::MapGet,
         "map_remove" => Collection::MapRemove,
         "map_scan" => Collection::MapScan,
+        "heap_push" => Collection::HeapPush,
+        "heap_pop" => Collection::HeapPop,
         "ring_queue" => Collection::RingQueue,
         "ring_push" => Collection::RingPush,
         "ring_in_place" => Collection::RingInPlace,

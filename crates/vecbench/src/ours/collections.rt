@@ -1,7 +1,8 @@
-//! The cases over this repository's table, ordered map, box, ring, small vector and slot map.
+//! The cases over this repository's table, ordered map, box, heap, ring, small vector and slot map.
 
 use crate::checksum::checksum_from;
 use crate::ours::trees::{self, Node};
+use aa_heap::heap::Heap;
 use aa_inline::inline::InlineVec;
 use aa_ordered::map::OrderedMap;
 use aa_ring::ring::Ring;
@@ -19,6 +20,8 @@ type Numbers = Table<u64, u64, BuildHasherDefault<FoldHasher>, Global>;
 
 type Sorted = OrderedMap<u64, u64, Global>;
 
+type Greatest = Heap<u64, Global>;
+
 type Queue = Ring<u32, Global>;
 
 // Up to eight items inline.
@@ -35,6 +38,7 @@ pub struct Held {
     table: Numbers,
     map: Sorted,
     tree: Option<Box<Node>>,
+    heap: Greatest,
     queue: Queue,
     rows: Vec<Few>,
     slots: Slots,
@@ -52,6 +56,7 @@ impl Held {
             table: Table::new_in(alloc),
             map: OrderedMap::new_in(alloc),
             tree: None,
+            heap: Heap::new_in(alloc),
             queue: Ring::new_in(alloc),
             rows: Vec::new(alloc),
             slots: SlotMap::new_in(alloc),
@@ -67,6 +72,7 @@ impl Held {
             | Collection::TableReserved
             | Collection::BoxTree
             | Collection::SlotsInsert
+            | Collection::HeapPush
             | Collection::MapInsert => { fill_keys(&mut self.keys, count, 0) }
             Collection::TableHit | Collection::TableRemove | Collection::TableIter => {
                 self.fill_table(count)
@@ -85,6 +91,10 @@ impl Held {
             Collection::MapGet | Collection::MapRemove | Collection::MapScan => {
                 fill_keys(&mut self.keys, count, 0)
                     && map_insert(&mut self.map, self.keys.as_slice())
+            }
+            Collection::HeapPop => {
+                fill_keys(&mut self.keys, count, 0)
+                    && heap_push(&mut self.heap, self.keys.as_slice())
             }
             Collection::RingQueue => ring_push(&mut self.queue, 100),
             Collection::SlotsGet | Collection::SlotsChurn => {
@@ -149,6 +159,8 @@ impl Held {
             Collection::MapGet => self.sum = map_get(&self.map, keys),
             Collection::MapRemove => self.sum = map_remove(&mut self.map, keys),
             Collection::MapScan => self.sum = map_scan(&self.map),
+            Collection::HeapPush => return heap_push(&mut self.heap, keys),
+            Collection::HeapPop => self.sum = heap_pop(&mut self.heap),
             Collection::RingQueue => return ring_queue(&mut self.queue, count),
             Collection::RingPush => return ring_push(&mut self.queue, count),
             Collection::RingInPlace => return ring_in_place(&mut self.queue, count),
@@ -181,6 +193,9 @@ impl Held {
         }
         for (key, value) in self.map.iter() {
             values = values.wrapping_mul(31).wrapping_add(*key ^ *value);
+        }
+        for key in self.heap.iter() {
+            values = values.wrapping_add(*key);
         }
         let mut all = trees::checksum(&self.tree, items.wrapping_add(values));
         for row in self.rows.as_slice() {
@@ -323,6 +338,22 @@ fn map_scan(map: &Sorted) -> u64 {
     let mut sum: u64 = 0;
     for (key, value) in map.iter() {
         sum = sum.wrapping_mul(31).wrapping_add(*key ^ *value);
+    }
+    sum
+}
+
+#[inline(never)]
+fn heap_push(heap: &mut Greatest, keys: &[u64]) -> bool {
+    each_is_granted!(key in keys, heap.push(*key))
+}
+
+#[inline(never)]
+fn heap_pop(heap: &mut Greatest) -> u64 {
+    let mut sum: u64 = 0;
+    for _ in 0..heap.len() {
+        if let Some(key) = heap.pop() {
+            sum = sum.wrapping_mul(31).wrapping_add(key);
+        }
     }
     sum
 }

@@ -1,15 +1,17 @@
-//! The cases over the toolchain's own maps, box, queue and vector, and a slot map in plain code.
+//! The cases over the toolchain's own maps, box, heap, queue and vector, and a slot map in plain code.
 
 use crate::checksum::checksum_from;
 use crate::serials::{Key, SlotMap};
 use crate::standard::trees::{self, Node};
 use benchcases::case::Collection;
 use std::alloc::Global;
-use std::collections::{BTreeMap, HashMap, VecDeque};
+use std::collections::{BTreeMap, BinaryHeap, HashMap, VecDeque};
 
 type Numbers = HashMap<u64, u64>;
 
 type Sorted = BTreeMap<u64, u64>;
+
+type Greatest = BinaryHeap<u64>;
 
 type Queue = VecDeque<u32>;
 
@@ -27,6 +29,7 @@ pub struct Held {
     table: Numbers,
     map: Sorted,
     tree: Option<Box<Node>>,
+    heap: Greatest,
     queue: Queue,
     rows: Vec<Few>,
     slots: Slots,
@@ -44,6 +47,7 @@ impl Held {
             table: HashMap::new(alloc),
             map: BTreeMap::new(alloc),
             tree: None,
+            heap: BinaryHeap::new(alloc),
             queue: VecDeque::new(alloc),
             rows: Vec::new(alloc),
             slots: SlotMap::new_in(alloc),
@@ -60,6 +64,7 @@ impl Held {
             | Collection::BoxTree
             | Collection::SlotsInsert
             | Collection::SlotsInPlace
+            | Collection::HeapPush
             | Collection::MapInsert => { fill_keys(&mut self.keys, count, 0) }
             Collection::TableHit | Collection::TableRemove | Collection::TableIter => {
                 self.fill_table(count)
@@ -78,6 +83,10 @@ impl Held {
             Collection::MapGet | Collection::MapRemove | Collection::MapScan => {
                 fill_keys(&mut self.keys, count, 0)
                     && map_insert(&mut self.map, self.keys.as_slice())
+            }
+            Collection::HeapPop => {
+                fill_keys(&mut self.keys, count, 0)
+                    && heap_push(&mut self.heap, self.keys.as_slice())
             }
             Collection::RingQueue => ring_push(&mut self.queue, 100),
             Collection::SlotsGet | Collection::SlotsChurn => {
@@ -137,6 +146,8 @@ impl Held {
             Collection::MapGet => self.sum = map_get(&self.map, keys),
             Collection::MapRemove => self.sum = map_remove(&mut self.map, keys),
             Collection::MapScan => self.sum = map_scan(&self.map),
+            Collection::HeapPush => return heap_push(&mut self.heap, keys),
+            Collection::HeapPop => self.sum = heap_pop(&mut self.heap),
             Collection::RingQueue => return ring_queue(&mut self.queue, count),
             Collection::RingPush => return ring_push(&mut self.queue, count),
             Collection::RingInPlace => return ring_in_place(&mut self.queue, count),
@@ -169,6 +180,9 @@ impl Held {
         }
         for (key, value) in self.map.iter() {
             values = values.wrapping_mul(31).wrapping_add(*key ^ *value);
+        }
+        for key in self.heap.iter() {
+            values = values.wrapping_add(*key);
         }
         let mut all = trees::checksum(&self.tree, items.wrapping_add(values));
         for row in self.rows.as_slice() {
@@ -311,6 +325,22 @@ fn map_scan(map: &Sorted) -> u64 {
     let mut sum: u64 = 0;
     for (key, value) in map.iter() {
         sum = sum.wrapping_mul(31).wrapping_add(*key ^ *value);
+    }
+    sum
+}
+
+#[inline(never)]
+fn heap_push(heap: &mut Greatest, keys: &[u64]) -> bool {
+    each_is_granted!(key in keys, heap.push(*key))
+}
+
+#[inline(never)]
+fn heap_pop(heap: &mut Greatest) -> u64 {
+    let mut sum: u64 = 0;
+    for _ in 0..heap.len() {
+        if let Some(key) = heap.pop() {
+            sum = sum.wrapping_mul(31).wrapping_add(key);
+        }
     }
     sum
 }
