@@ -22,12 +22,12 @@ set-insert : {T : Type 0} (xs : List T) (p : ℕ) (y z : T) → p ≤ length xs 
 set-insert xs p y z h = set_at (take p xs) y (drop p xs) z p (length-take-le p xs h)
 
 module _ {K V : Type 0} (cmp : K → K → Ordering) (k : K) (leaves : LeavesView (K × V)) (v : OrderedView K V) (is : view_of leaves ≡ v) (p : ℕ) where
-  pub present-never : {P : Type 0} → IsFound cmp (joined leaves.lists) k p → value cmp v.entries k ≡ None → P
+  pub present-never : {P : Type 0} → IsFound (cmp k) (joined leaves.lists) p → value cmp v.entries k ≡ None → P
   present-never f none =
-      let some = subst (λ (u : OrderedView K V). is_some (value cmp u.entries k) ≡ true) is (found-some cmp k (joined leaves.lists) p f) in
+      let some = subst (λ (u : OrderedView K V). is_some (value cmp u.entries k) ≡ true) is (found-some (cmp k) (joined leaves.lists) p f) in
       absurd (true≢false (sym some ∙ ap is_some none))
 
-  module _ (f : IsGap cmp (joined leaves.lists) k p) (item : V) (new : LeavesView (K × V)) (q : joined new.lists ≡ insert (joined leaves.lists) p (k, item)) (i at : ℕ) (a : IsAt new.lists i at) (pl : position new.lists i at ≡ p) (e : K × V) (r : slice_get (list_at new i) at ≡ Some e) where
+  module _ (f : IsGap (cmp k) (joined leaves.lists) p) (item : V) (new : LeavesView (K × V)) (q : joined new.lists ≡ insert (joined leaves.lists) p (k, item)) (i at : ℕ) (a : IsAt new.lists i at) (pl : position new.lists i at ≡ p) (e : K × V) (r : slice_get (list_at new i) at ≡ Some e) where
     there : get_or (joined new.lists) (position new.lists i at) e ≡ (k, item)
     there = rw (pl, q) (get_or-insert_at (joined leaves.lists) p (k, item) e f.within)
 

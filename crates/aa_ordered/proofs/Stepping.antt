@@ -6,32 +6,32 @@ use Rattle.std.specs.declared.cmp.Ordering.{Ordering}
 use Rattle.aa_ordered.specs.Entries.{AreGreater, AreLess}
 use Rattle.aa_ordered.proofs.Order.{IsAbove, IsBelow}
 
-module _ {K V : Type 0} (cmp : K → K → Ordering) (k : K) where
+module _ {K V : Type 0} (order : K → Ordering) where
   -- fewer entries
-  pub less-fewer : (es : List (K × V)) (m n : ℕ) → m ≤ n → AreLess cmp k (take n es) → AreLess cmp k (take m es)
-  less-fewer es zero n h a = All-nil (IsBelow cmp k)
-  less-fewer [] (suc m) n h a = All-nil (IsBelow cmp k)
+  pub less-fewer : (es : List (K × V)) (m n : ℕ) → m ≤ n → AreLess order (take n es) → AreLess order (take m es)
+  less-fewer es zero n h a = All-nil (IsBelow order)
+  less-fewer [] (suc m) n h a = All-nil (IsBelow order)
   less-fewer (x ∷ es) (suc m) zero h a = absurd (omega (arith, h))
-  less-fewer (x ∷ es) (suc m) (suc n) h a = All-cons (IsBelow cmp k) x (take m es) (All-head (IsBelow cmp k) x (take n es) a) (less-fewer es m n (omega (arith, h)) (All-tail (IsBelow cmp k) x (take n es) a))
+  less-fewer (x ∷ es) (suc m) (suc n) h a = All-cons (IsBelow order) x (take m es) (All-head (IsBelow order) x (take n es) a) (less-fewer es m n (omega (arith, h)) (All-tail (IsBelow order) x (take n es) a))
 
-  pub greater-fewer : (es : List (K × V)) (m n : ℕ) → m ≤ n → AreGreater cmp k (drop m es) → AreGreater cmp k (drop n es)
-  greater-fewer es zero n h a = All-drop (IsAbove cmp k) n es a
-  greater-fewer [] (suc m) n h a = All-drop (IsAbove cmp k) n [] (All-nil (IsAbove cmp k))
+  pub greater-fewer : (es : List (K × V)) (m n : ℕ) → m ≤ n → AreGreater order (drop m es) → AreGreater order (drop n es)
+  greater-fewer es zero n h a = All-drop (IsAbove order) n es a
+  greater-fewer [] (suc m) n h a = All-drop (IsAbove order) n [] (All-nil (IsAbove order))
   greater-fewer (x ∷ es) (suc m) zero h a = absurd (omega (arith, h))
   greater-fewer (x ∷ es) (suc m) (suc n) h a = greater-fewer es m n (omega (arith, h)) a
 
   -- one step
-  pub less-one : (es : List (K × V)) (low r : ℕ) → r ≤ 1 → AreLess cmp k (take low es) → (0 < r → AreLess cmp k (take (low + 1) es)) → AreLess cmp k (take (low + r) es)
+  pub less-one : (es : List (K × V)) (low r : ℕ) → r ≤ 1 → AreLess order (take low es) → (0 < r → AreLess order (take (low + 1) es)) → AreLess order (take (low + r) es)
   less-one es low zero h a f = less-fewer es (low + 0) low (omega arith) a
   less-one es low (suc r) h a f = less-fewer es (low + suc r) (low + 1) (omega (arith, h)) (f (omega arith))
 
-  pub greater-one : (es : List (K × V)) (low r n : ℕ) → 1 < n → AreGreater cmp k (drop (low + n) es) → (r < 1 → AreGreater cmp k (drop (low + 1) es)) → AreGreater cmp k (drop (low + r + (n - 1)) es)
+  pub greater-one : (es : List (K × V)) (low r n : ℕ) → 1 < n → AreGreater order (drop (low + n) es) → (r < 1 → AreGreater order (drop (low + 1) es)) → AreGreater order (drop (low + r + (n - 1)) es)
   greater-one es low zero n h a f = greater-fewer es (low + 1) (low + 0 + (n - 1)) (omega (arith, h)) (f (omega arith))
   greater-one es low (suc r) n h a f = greater-fewer es (low + n) (low + suc r + (n - 1)) (omega (arith, h)) a
 
   -- three steps of `q` entries
-  pub less-three : (es : List (K × V)) (low q a b c : ℕ) → a ≤ 1 → b ≤ 1 → c ≤ 1 → AreLess cmp k (take low es) → (0 < a → AreLess cmp k (take (low + q) es)) → (0 < b → AreLess cmp k (take (low + 2 * q) es)) → (0 < c → AreLess cmp k (take (low + 3 * q) es))
-      → AreLess cmp k (take (low + (a + b + c) * q) es)
+  pub less-three : (es : List (K × V)) (low q a b c : ℕ) → a ≤ 1 → b ≤ 1 → c ≤ 1 → AreLess order (take low es) → (0 < a → AreLess order (take (low + q) es)) → (0 < b → AreLess order (take (low + 2 * q) es)) → (0 < c → AreLess order (take (low + 3 * q) es))
+      → AreLess order (take (low + (a + b + c) * q) es)
   less-three es low q a b (suc c) ha hb hc p f g h =
       let m : (a + b + suc c) * q ≤ 3 * q = mul-le-mul_right q (omega (arith, ha, hb, hc)) in
       less-fewer es (low + (a + b + suc c) * q) (low + 3 * q) (omega (arith, m)) (h (omega arith))
@@ -43,8 +43,8 @@ module _ {K V : Type 0} (cmp : K → K → Ordering) (k : K) where
       less-fewer es (low + (suc a + 0 + 0) * q) (low + q) (omega (arith, m)) (f (omega arith))
   less-three es low q zero zero zero ha hb hc p f g h = less-fewer es (low + (0 + 0 + 0) * q) low (omega arith) p
 
-  pub greater-three : (es : List (K × V)) (low q n a b c : ℕ) → 4 * q ≤ n → AreGreater cmp k (drop (low + n) es) → (a < 1 → AreGreater cmp k (drop (low + q) es)) → (b < 1 → AreGreater cmp k (drop (low + 2 * q) es)) → (c < 1 → AreGreater cmp k (drop (low + 3 * q) es))
-      → AreGreater cmp k (drop (low + (a + b + c) * q + (n - 3 * q)) es)
+  pub greater-three : (es : List (K × V)) (low q n a b c : ℕ) → 4 * q ≤ n → AreGreater order (drop (low + n) es) → (a < 1 → AreGreater order (drop (low + q) es)) → (b < 1 → AreGreater order (drop (low + 2 * q) es)) → (c < 1 → AreGreater order (drop (low + 3 * q) es))
+      → AreGreater order (drop (low + (a + b + c) * q + (n - 3 * q)) es)
   greater-three es low q n zero b c hn p f g h =
       let m : 0 * q ≤ (0 + b + c) * q = mul-le-mul_right q (omega arith) in
       greater-fewer es (low + q) (low + (0 + b + c) * q + (n - 3 * q)) (omega (arith, m, hn)) (f (omega arith))

@@ -2,7 +2,7 @@
 use Rattle.std.specs.Prelude.{◌≡◌, ℕ, ◌<◌, ◌≤◌, List, [], length, take, drop, All, Option, slice_index_or}
 use Rattle.std.specs.declared.cmp.Ordering.{Ordering}
 use Rattle.std.specs.declared.cmp.Ordering.TheVariants.{Less, Equal, Greater}
-use Rattle.std.specs.Map.{keys_of, lookup, lookup_entry, remove_entry, set_value}
+use Rattle.std.specs.Map.{keys_of, lookup, lookup_entry, remove_entry}
 use Rattle.std.specs.BTreeMap.{is_at}
 use Rattle.core.specs.List.Sorted.{IsStrictlySortedBy}
 
@@ -34,26 +34,24 @@ module _ {K V : Type 0} (cmp : K → K → Ordering) where
   abbrev pub without : List (K × V) → K → List (K × V)
   without es k = remove_entry (is_at (cmp k)) es
 
-  -- the entries `es` with `v` as the value of the key `k`, if they have the key
-  abbrev pub with_value : List (K × V) → K → V → List (K × V)
-  with_value es k v = set_value (is_at (cmp k)) es v
+-- what is looked up compares with each key by `order`, as the key `k` by `cmp k`
+module _ {K V : Type 0} (order : K → Ordering) where
+  -- all keys of the entries `es` are less than what is looked up
+  abbrev pub AreLess : List (K × V) → Type 0
+  AreLess es = All (λ e. order e.0 ≡ Greater) es
 
-  -- all keys of the entries `es` are less than `k`
-  abbrev pub AreLess : K → List (K × V) → Type 0
-  AreLess k es = All (λ e. cmp k e.0 ≡ Greater) es
+  -- all keys of the entries `es` are greater than what is looked up
+  abbrev pub AreGreater : List (K × V) → Type 0
+  AreGreater es = All (λ e. order e.0 ≡ Less) es
 
-  -- all keys of the entries `es` are greater than `k`
-  abbrev pub AreGreater : K → List (K × V) → Type 0
-  AreGreater k es = All (λ e. cmp k e.0 ≡ Less) es
-
-  -- the entries `es` have the key `k` at index `at`
-  pub record IsFound (es : List (K × V)) (k : K) (at : ℕ) : Type 0 where
+  -- the entries `es` have an equal key at index `at`
+  pub record IsFound (es : List (K × V)) (at : ℕ) : Type 0 where
     pub within : at < length es
-    pub before : AreLess k (take at es)
-    pub equal : (e : K × V) → e ≡ slice_index_or es at e → cmp k e.0 ≡ Equal
+    pub before : AreLess (take at es)
+    pub equal : (e : K × V) → e ≡ slice_index_or es at e → order e.0 ≡ Equal
 
-  -- the entries `es` do not have the key `k`, which belongs at index `at`
-  pub record IsGap (es : List (K × V)) (k : K) (at : ℕ) : Type 0 where
+  -- the entries `es` do not have an equal key, and one belongs at index `at`
+  pub record IsGap (es : List (K × V)) (at : ℕ) : Type 0 where
     pub within : at ≤ length es
-    pub before : AreLess k (take at es)
-    pub after : AreGreater k (drop at es)
+    pub before : AreLess (take at es)
+    pub after : AreGreater (drop at es)

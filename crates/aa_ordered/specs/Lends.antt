@@ -2,9 +2,10 @@
 use Rattle.std.specs.Prelude.{Bool, Option}
 use Rattle.std.specs.Borrow.{Fml, RattleType, MutBor, Lends, LendsIf}
 use Rattle.std.specs.BTreeMap.{insert_entry}
+use Rattle.std.specs.Map.{set_value}
 use Rattle.std.specs.declared.alloc.Allocator as alloc
 use Rattle.std.specs.declared.cmp.Ordering.{Ordering}
-use Rattle.aa_ordered.specs.Entries.{OrderedView, with_value}
+use Rattle.aa_ordered.specs.Entries.{OrderedView}
 use Rattle.aa_ordered.specs.contracts.map.OrderedMap.{the_row}
 
 -- equality and order of the keys, as a clause names them `K.Ord`
@@ -18,13 +19,13 @@ map_row K V A g a =
     the_row K V A (record { cmp = g.cmp }) (record { eq = g.eq })
     (record { partial_cmp = g.partial_cmp }) a
 
--- the final state of the map `m`: `k` has the last value written through `r`, or the map is
--- unchanged if `r` is `None`
+-- the final state of the map `m`: the key that passes the test has the last value written through
+-- `r`, or the map is unchanged if `r` is `None`
 abbrev pub lends_value : (K V A : RattleType) (g : OfKeys K.Denot) (a : alloc.Ghosts A.Denot)
-    → MutBor (OrderedView K.Denot V.Denot) → K.Denot → Option (MutBor V.Denot) → Fml
-lends_value K V A g a m k r =
+    → MutBor (OrderedView K.Denot V.Denot) → (K.Denot → Bool) → Option (MutBor V.Denot) → Fml
+lends_value K V A g a m test r =
     LendsIf (map_row K V A g a) V m r
-    (λ x. record m.now { entries = with_value g.cmp m.now.entries k x }) m.now
+    (λ x. record m.now { entries = set_value test m.now.entries x }) m.now
 
 -- the final state of the map `m`: `k`, which is present, has the last value written through `r`
 abbrev pub lends_there : (K V A : RattleType) (g : OfKeys K.Denot) (a : alloc.Ghosts A.Denot)

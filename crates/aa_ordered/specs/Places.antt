@@ -4,8 +4,9 @@ use Rattle.std.specs.declared.cmp.Ordering.{Ordering}
 use Rattle.aa_ordered.specs.Balance.{joined}
 use Rattle.aa_ordered.specs.Entries.{AreGreater, AreLess}
 
--- the lists before index `i` have keys less than `k`, and those after it greater ones
-pub record HasPlace {K V : Type 0} (cmp : K → K → Ordering) (ls : List (List (K × V))) (k : K)
-    (i : ℕ) : Type 0 where
-  pub before : AreLess cmp k (joined (take i ls))
-  pub after : AreGreater cmp k (joined (drop (i + 1) ls))
+-- the lists before index `i` have keys less than what compares with keys by `order`, and those after
+-- it greater ones
+pub record HasPlace {K V : Type 0} (order : K → Ordering) (ls : List (List (K × V))) (i : ℕ)
+    : Type 0 where
+  pub before : AreLess order (joined (take i ls))
+  pub after : AreGreater order (joined (drop (i + 1) ls))

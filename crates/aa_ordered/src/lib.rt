@@ -12,6 +12,7 @@ pub mod into_iter;
 pub mod iter;
 pub mod iter_mut;
 mod leaves;
+pub mod lookup;
 pub mod map;
 pub mod range;
 mod seek;

@@ -2,12 +2,14 @@
 ghost use Rattle.std.specs.Prelude.{◌≡◌, ◌+◌, ◌-◌, ◌*◌, ◌<◌, ◌↔◌, [], drop, is_some, length, max, take, true, IfErr, IfOk, IsOk, IsTrue, OnErr, OnOk, option_copied, option_map, slice_get};
 ghost use Rattle.std.specs.Borrow.{sem};
 ghost use Rattle.std.specs.Option.{option_copied_mut};
-ghost use Rattle.std.specs.BTreeMap.{insert_entry};
+ghost use Rattle.std.specs.BTreeMap.{insert_entry, is_at};
+ghost use Rattle.std.specs.Map.{lookup, lookup_entry, remove_entry};
 ghost use Rattle.allocator_api2.specs.Errors.{IsErrorFor};
 ghost use Rattle.aa_ordered.specs.Capacity.{requested, resizes_to, MayGrowForOne};
-ghost use Rattle.aa_ordered.specs.Entries.{empty, entry_of, value, without, IsOrdered};
+ghost use Rattle.aa_ordered.specs.Entries.{empty, value, IsOrdered};
 
 use crate::leaves::Leaves;
+use crate::lookup::Lookup;
 use allocator_api2::collections::{Refused, TryReserveError};
 use find::find;
 use spots::{insert_at, remove_at};
@@ -144,8 +146,10 @@ impl<K: Ord, V, A: Allocator> OrderedMap<K, V, A> {
     }
 
     /// Returns a reference to the value of `key`, or `None` if the key is absent.
-    pub fn get(&self, key: &K) -> Option<&V>
-        ensures { option_copied result ≡ value K.cmp self.now.entries key.now }
+    ///
+    /// `key` is a `&K`, or a borrowed form of the key, as a `&str` for a text (`Lookup`).
+    pub fn get<Q: Lookup<K>>(&self, key: Q) -> Option<&V>
+        ensures { option_copied result ≡ lookup (is_at (Q.order key)) self.now.entries }
     {
         match find(&self.leaves, key) {
             Ok(spot) => Some(&self.leaves.list(spot.list)[spot.at].1),
@@ -155,9 +159,11 @@ impl<K: Ord, V, A: Allocator> OrderedMap<K, V, A> {
 
     /// Returns references to the key that is equal to `key` and its value, or `None` if the key is
     /// absent.
-    pub fn get_key_value(&self, key: &K) -> Option<(&K, &V)>
+    ///
+    /// `key` may be a borrowed form of the key, as for `get`.
+    pub fn get_key_value<Q: Lookup<K>>(&self, key: Q) -> Option<(&K, &V)>
         ensures { option_map (λ p. (p.0.now, p.1.now)) result
-            ≡ entry_of K.cmp self.now.entries key.now }
+            ≡ lookup_entry (is_at (Q.order key)) self.now.entries }
     {
         match find(&self.leaves, key) {
             Ok(spot) => {
@@ -169,17 +175,22 @@ impl<K: Ord, V, A: Allocator> OrderedMap<K, V, A> {
     }
 
     /// Returns `true` if the map has a value for `key`.
-    pub fn contains_key(&self, key: &K) -> bool
-        ensures { result ≡ is_some (value K.cmp self.now.entries key.now) }
+    ///
+    /// `key` may be a borrowed form of the key, as for `get`.
+    pub fn contains_key<Q: Lookup<K>>(&self, key: Q) -> bool
+        ensures { result ≡ is_some (lookup (is_at (Q.order key)) self.now.entries) }
     {
         self.get(key).is_some()
     }
 
     /// Returns a mutable reference to the value of `key`, or `None` if the key is absent.
-    pub fn get_mut(&mut self, key: &K) -> Option<&mut V>
+    ///
+    /// `key` may be a borrowed form of the key, as for `get`.
+    pub fn get_mut<Q: Lookup<K>>(&mut self, key: Q) -> Option<&mut V>
         ensures* writes_back { sem 𝓛 (lends_value K.row V.row A.row K.Ord A.Allocator self.entry
-            key.now result) }
-        ensures value { option_copied_mut result ≡ value K.cmp self.old.entries key.now }
+            (is_at (Q.order key)) result) }
+        ensures value { option_copied_mut result
+            ≡ lookup (is_at (Q.order key)) self.old.entries }
     {
         match find(&self.leaves, key) {
             Ok(spot) => Some(&mut self.leaves.item_mut(spot.list, spot.at).1),
@@ -240,11 +251,13 @@ impl<K: Ord + Drop, V, A: Allocator + Clone> OrderedMap<K, V, A> {
 impl<K: Ord, V, A: Allocator> OrderedMap<K, V, A> {
     /// Removes `key` and returns the key that was stored and its value, or `None` if it is absent.
     ///
-    /// Does not allocate, and does not change the capacity.
-    pub fn remove_entry(&mut self, key: &K) -> Option<(K, V)>
-        ensures old { result ≡ entry_of K.cmp self.old.entries key.now }
-        ensures removed { self.new
-            ≡ record self.old { entries = without K.cmp self.old.entries key.now } }
+    /// `key` may be a borrowed form of the key, as for `get`. Does not allocate, and does not change
+    /// the capacity.
+    pub fn remove_entry<Q: Lookup<K>>(&mut self, key: Q) -> Option<(K, V)>
+        ensures old { result ≡ lookup_entry (is_at (Q.order key)) self.old.entries }
+        ensures removed { self.new ≡ record self.old {
+          entries = remove_entry (is_at (Q.order key)) self.old.entries;
+        } }
     {
         match find(&self.leaves, key) {
             Ok(spot) => {
@@ -272,11 +285,13 @@ impl<K: Ord + Drop, V: Drop, A: Allocator> OrderedMap<K, V, A> {
 impl<K: Ord + Drop, V, A: Allocator> OrderedMap<K, V, A> {
     /// Removes `key` and returns its value, or `None` if the key is absent.
     ///
-    /// Does not allocate, and does not change the capacity.
-    pub fn remove(&mut self, key: &K) -> Option<V>
-        ensures old { result ≡ value K.cmp self.old.entries key.now }
-        ensures removed { self.new
-            ≡ record self.old { entries = without K.cmp self.old.entries key.now } }
+    /// `key` may be a borrowed form of the key, as for `get`. Does not allocate, and does not change
+    /// the capacity.
+    pub fn remove<Q: Lookup<K>>(&mut self, key: Q) -> Option<V>
+        ensures old { result ≡ lookup (is_at (Q.order key)) self.old.entries }
+        ensures removed { self.new ≡ record self.old {
+          entries = remove_entry (is_at (Q.order key)) self.old.entries;
+        } }
     {
         match self.remove_entry(key) {
             Some((_, item)) => Some(item),

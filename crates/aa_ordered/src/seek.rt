@@ -5,18 +5,19 @@
 ghost use Rattle.std.specs.Prelude.{◌≡◌, ◌+◌, ◌-◌, ◌*◌, ◌/◌, ◌<◌, ◌≤◌, drop, length, take, IfErr, IfOk};
 ghost use Rattle.aa_ordered.specs.Entries.{AreGreater, AreLess, IsFound, IsGap, IsOrdered};
 
+use crate::lookup::Lookup;
 use std::cmp::{Ord, Ordering};
 
 // Returns 1 if `key` is at least the key at index `at`, else 0.
 #[inline(always)]
-fn reaches<K: Ord, V>(entries: &[(K, V)], key: &K, at: usize) -> usize
+fn reaches<K: Ord, V, Q: Lookup<K>>(entries: &[(K, V)], key: Q, at: usize) -> usize
     requires ordered { IsOrdered K.cmp entries.now }
     requires within { at < length entries.now }
     ensures one { result ≤ 1 }
-    ensures before { 0 < result → AreLess K.cmp key.now (take at entries.now) }
-    ensures after { result < 1 → AreGreater K.cmp key.now (drop at entries.now) }
+    ensures before { 0 < result → AreLess (Q.order key) (take at entries.now) }
+    ensures after { result < 1 → AreGreater (Q.order key) (drop at entries.now) }
 {
-    match key.cmp(&entries[at].0) {
+    match key.compare(&entries[at].0) {
         Ordering::Less => 0,
         Ordering::Equal => 1,
         Ordering::Greater => 1,
@@ -26,15 +27,15 @@ fn reaches<K: Ord, V>(entries: &[(K, V)], key: &K, at: usize) -> usize
 // Returns how many of the `count` entries from index `low` on to pass over: three quarters at most,
 // so that the key is among the next quarter of them and the rest of the division.
 #[inline(always)]
-fn step<K: Ord, V>(entries: &[(K, V)], key: &K, low: usize, count: usize) -> usize
+fn step<K: Ord, V, Q: Lookup<K>>(entries: &[(K, V)], key: Q, low: usize, count: usize) -> usize
     requires ordered { IsOrdered K.cmp entries.now }
     requires within { low + count ≤ length entries.now }
     requires many { 4 ≤ count }
-    requires before { AreLess K.cmp key.now (take low entries.now) }
-    requires after { AreGreater K.cmp key.now (drop (low + count) entries.now) }
+    requires before { AreLess (Q.order key) (take low entries.now) }
+    requires after { AreGreater (Q.order key) (drop (low + count) entries.now) }
     ensures most { result ≤ 3 * (count / 4) }
-    ensures before { AreLess K.cmp key.now (take (low + result) entries.now) }
-    ensures after { AreGreater K.cmp key.now
+    ensures before { AreLess (Q.order key) (take (low + result) entries.now) }
+    ensures after { AreGreater (Q.order key)
         (drop (low + result + (count - 3 * (count / 4))) entries.now) }
 {
     let part = count / 4;
@@ -47,14 +48,14 @@ fn step<K: Ord, V>(entries: &[(K, V)], key: &K, low: usize, count: usize) -> usi
 // Returns the first index of at most three entries among which the key is or belongs, and their
 // number.
 #[inline(always)]
-fn narrow<K: Ord, V>(entries: &[(K, V)], key: &K) -> (usize, usize)
+fn narrow<K: Ord, V, Q: Lookup<K>>(entries: &[(K, V)], key: Q) -> (usize, usize)
     requires ordered { IsOrdered K.cmp entries.now }
     requires some { 0 < length entries.now }
     ensures some { 0 < result.1 }
     ensures few { result.1 < 4 }
     ensures within { result.0 + result.1 ≤ length entries.now }
-    ensures before { AreLess K.cmp key.now (take result.0 entries.now) }
-    ensures after { AreGreater K.cmp key.now (drop (result.0 + result.1) entries.now) }
+    ensures before { AreLess (Q.order key) (take result.0 entries.now) }
+    ensures after { AreGreater (Q.order key) (drop (result.0 + result.1) entries.now) }
 {
     let mut low = 0;
     let mut count = entries.len();
@@ -67,12 +68,12 @@ fn narrow<K: Ord, V>(entries: &[(K, V)], key: &K) -> (usize, usize)
 
 // Returns the index of the last entry that `key` reaches, or 0 if it reaches none.
 #[inline(always)]
-fn last_reached<K: Ord, V>(entries: &[(K, V)], key: &K) -> usize
+fn last_reached<K: Ord, V, Q: Lookup<K>>(entries: &[(K, V)], key: Q) -> usize
     requires ordered { IsOrdered K.cmp entries.now }
     requires some { 0 < length entries.now }
     ensures within { result < length entries.now }
-    ensures before { AreLess K.cmp key.now (take result entries.now) }
-    ensures after { AreGreater K.cmp key.now (drop (result + 1) entries.now) }
+    ensures before { AreLess (Q.order key) (take result entries.now) }
+    ensures after { AreGreater (Q.order key) (drop (result + 1) entries.now) }
 {
     let (mut low, mut count) = narrow(entries, key);
     while count > 1 {
@@ -85,16 +86,16 @@ fn last_reached<K: Ord, V>(entries: &[(K, V)], key: &K) -> usize
 /// Returns `Ok` with the index of a key, or `Err` with the index at which to insert it.
 ///
 /// Compares the key with at most 4 + 1.5 * log2(n) of n entries.
-pub fn seek<K: Ord, V>(entries: &[(K, V)], key: &K) -> Result<usize, usize>
+pub fn seek<K: Ord, V, Q: Lookup<K>>(entries: &[(K, V)], key: Q) -> Result<usize, usize>
     requires { IsOrdered K.cmp entries.now }
-    ensures found { IfOk result (IsFound K.cmp entries.now key.now) }
-    ensures absent { IfErr result (IsGap K.cmp entries.now key.now) }
+    ensures found { IfOk result (IsFound (Q.order key) entries.now) }
+    ensures absent { IfErr result (IsGap (Q.order key) entries.now) }
 {
     if entries.is_empty() {
         return Err(0);
     }
     let at = last_reached(entries, key);
-    match key.cmp(&entries[at].0) {
+    match key.compare(&entries[at].0) {
         Ordering::Less => Err(at),
         Ordering::Equal => Ok(at),
         Ordering::Greater => Err(at + 1),

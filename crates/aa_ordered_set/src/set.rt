@@ -1,7 +1,9 @@
 //! The ordered set: a map whose keys have no values.
 ghost use Rattle.std.specs.Prelude.{◌≡◌, ◌<◌, ◌≤◌, ◌↔◌, if◌then◌else◌, [], Bool, true, false, not, filter, find, is_some, length, IfErr, IfOk, IsOk, IsTrue, OnErr, OnOk, option_copied};
+ghost use Rattle.std.specs.BTreeMap.{is_at};
 ghost use Rattle.std.specs.BTreeSet.{insert_key, replace_key};
 ghost use Rattle.std.specs.Fn.{CalledAt};
+ghost use Rattle.std.specs.List.{list_any};
 ghost use Rattle.std.specs.List.Retain.{IsFiltered};
 ghost use Rattle.std.specs.Ordering.{eq_by_cmp};
 ghost use Rattle.std.specs.Set.{remove_key};
@@ -11,6 +13,7 @@ ghost use Rattle.aa_ordered_set.specs.Sets.{empty, has, map_of, IsAscending};
 
 use aa_ordered::into_iter::IntoKeys;
 use aa_ordered::iter::Keys;
+use aa_ordered::lookup::Lookup;
 use aa_ordered::map::OrderedMap;
 use allocator_api2::collections::{Refused, TryReserveError};
 use std::alloc::{AllocError, Allocator, Global};
@@ -113,17 +116,21 @@ impl<T: Ord, A: Allocator> OrderedSet<T, A> {
     }
 
     /// Returns `true` if the set has an element equal to `value`.
+    ///
+    /// `value` is a `&T`, or a borrowed form of the element, as a `&str` for a text (`Lookup`).
     #[tactic(auto, using(crate::proofs::Keys::keys))]
-    pub fn contains(&self, value: &T) -> bool
-        ensures { result ≡ has T.cmp self.now.elements value.now }
+    pub fn contains<Q: Lookup<T>>(&self, value: Q) -> bool
+        ensures { result ≡ list_any (is_at (Q.order value)) self.now.elements }
     {
         self.map.contains_key(value)
     }
 
     /// Returns a reference to the element equal to `value`, or `None` if there is none.
+    ///
+    /// `value` may be a borrowed form of the element, as for `contains`.
     #[tactic(auto, using(crate::proofs::Keys::keys))]
-    pub fn get(&self, value: &T) -> Option<&T>
-        ensures { option_copied result ≡ find (eq_by_cmp T.cmp value.now) self.now.elements }
+    pub fn get<Q: Lookup<T>>(&self, value: Q) -> Option<&T>
+        ensures { option_copied result ≡ find (is_at (Q.order value)) self.now.elements }
     {
         match self.map.get_key_value(value) {
             Some((element, _)) => Some(element),
@@ -264,12 +271,13 @@ impl<T: Ord + Drop, A: Allocator + Clone> OrderedSet<T, A> {
 impl<T: Ord, A: Allocator> OrderedSet<T, A> {
     /// Removes the element equal to `value` and returns it, or returns `None` if there is none.
     ///
-    /// Does not allocate, and does not change the capacity.
+    /// `value` may be a borrowed form of the element, as for `contains`. Does not allocate, and does
+    /// not change the capacity.
     #[tactic(auto, using(crate::proofs::Keys::keys))]
-    pub fn take(&mut self, value: &T) -> Option<T>
-        ensures old { result ≡ find (eq_by_cmp T.cmp value.now) self.old.elements }
+    pub fn take<Q: Lookup<T>>(&mut self, value: Q) -> Option<T>
+        ensures old { result ≡ find (is_at (Q.order value)) self.old.elements }
         ensures removed { self.new ≡ record self.old {
-          elements = remove_key (eq_by_cmp T.cmp value.now) self.old.elements;
+          elements = remove_key (is_at (Q.order value)) self.old.elements;
         } }
     {
         let Some((element, _)) = self.map.remove_entry(value) else {
@@ -282,12 +290,13 @@ impl<T: Ord, A: Allocator> OrderedSet<T, A> {
 impl<T: Ord + Drop, A: Allocator> OrderedSet<T, A> {
     /// Removes the element equal to `value`, and returns `true` if there was one.
     ///
-    /// Does not allocate, and does not change the capacity.
+    /// `value` may be a borrowed form of the element, as for `contains`. Does not allocate, and does
+    /// not change the capacity.
     #[tactic(auto, using(crate::proofs::Keys::keys))]
-    pub fn remove(&mut self, value: &T) -> bool
-        ensures found { result ≡ has T.cmp self.old.elements value.now }
+    pub fn remove<Q: Lookup<T>>(&mut self, value: Q) -> bool
+        ensures found { result ≡ list_any (is_at (Q.order value)) self.old.elements }
         ensures removed { self.new ≡ record self.old {
-          elements = remove_key (eq_by_cmp T.cmp value.now) self.old.elements;
+          elements = remove_key (is_at (Q.order value)) self.old.elements;
         } }
     {
         self.map.remove(value).is_some()

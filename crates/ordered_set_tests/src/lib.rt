@@ -10,4 +10,6 @@ mod drops;
 #[cfg(test)]
 mod failures;
 #[cfg(test)]
+mod lookup;
+#[cfg(test)]
 mod traits;

@@ -6,4 +6,6 @@ mod drops;
 #[cfg(test)]
 mod iterators;
 #[cfg(test)]
+mod lookup;
+#[cfg(test)]
 mod map;

@@ -7,8 +7,8 @@ abbrev pub invariant-loop-count : goal.invariant-loop-count
 invariant-loop-count g l = record {
   some : 0 < l.count;
   within : l.low + l.count ≤ length l.entries;
-  before : AreLess g.K.Ord.cmp l.key (take l.low l.entries);
-  after : AreGreater g.K.Ord.cmp l.key (drop (l.low + l.count) l.entries);
+  before : AreLess (g.Q.Lookup.order l.key) (take l.low l.entries);
+  after : AreGreater (g.Q.Lookup.order l.key) (drop (l.low + l.count) l.entries);
 }
 
 abbrev pub decreases-loop-count : goal.decreases-loop-count

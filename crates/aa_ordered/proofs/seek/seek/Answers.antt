@@ -6,12 +6,12 @@ pub returns-in-Less-clause-absent : goal.returns-in-Less-clause-absent
 returns-in-Less-clause-absent g c = record {
   within = omega (arith, c.last_reached-at.ensures.within);
   before = c.last_reached-at.ensures.before;
-  after = greater-from g.K.Ord.cmp g.met.K.Ord.total c.args.key.now c.args.entries.now c.last_reached-at.result c.index-entries-at.result c.last_reached-at.ensures.within c.requires (sym c.cmp.ensures ∙ c.in-Less.is);
+  after = greater-from (record { less = g.met.Q.Lookup.less_after c.args.key; equal = g.met.Q.Lookup.like_equal c.args.key }) c.args.entries.now c.last_reached-at.result c.index-entries-at.result c.last_reached-at.ensures.within c.requires (sym c.compare.ensures ∙ c.in-Less.is);
 }
 
 pub returns-in-Greater-clause-absent : goal.returns-in-Greater-clause-absent
 returns-in-Greater-clause-absent g c = record {
   within = omega (arith, c.last_reached-at.ensures.within);
-  before = less-through g.K.Ord.cmp g.met.K.Ord.total c.args.key.now c.args.entries.now c.last_reached-at.result c.index-entries-at.result c.last_reached-at.ensures.within c.requires (sym c.cmp.ensures ∙ c.in-Greater.is);
+  before = less-through (record { less = g.met.Q.Lookup.less_after c.args.key; equal = g.met.Q.Lookup.like_equal c.args.key }) c.args.entries.now c.last_reached-at.result c.index-entries-at.result c.last_reached-at.ensures.within c.requires (sym c.compare.ensures ∙ c.in-Greater.is);
   after = c.last_reached-at.ensures.after;
 }

@@ -18,9 +18,9 @@ returns-clause-before g c =
     let cmp = g.K.Ord.cmp in let k = c.args.key.now in let l = c.self.inside.leaves in
     elim c.match-find.branch [
       | in-Ok w ↦ view-found-before cmp k l c.args.self.now c.self.view_is c.count_in.result c.match-find.spot.list c.match-find.spot.at c.count_in.ensures g.met.K.Ord.total
-          (subst (λ s. IsFound cmp (joined l.lists) k (position l.lists s.list s.at)) (sym w.spot-is) w.in-Ok.ensures.found) c.self.invariant.ordered
+          (subst (λ s. IsFound (cmp k) (joined l.lists) (position l.lists s.list s.at)) (sym w.spot-is) w.in-Ok.ensures.found) c.self.invariant.ordered
       | in-Err w ↦ view-gap-before cmp k l c.args.self.now c.self.view_is c.count_in.result c.match-find.spot.list c.match-find.spot.at c.count_in.ensures
-          (subst (λ s. IsGap cmp (joined l.lists) k (position l.lists s.list s.at)) (sym w.spot-is) w.in-Err.ensures.absent)
+          (subst (λ s. IsGap (cmp k) (joined l.lists) (position l.lists s.list s.at)) (sym w.spot-is) w.in-Err.ensures.absent)
     ]
 
 pub returns-clause-after : goal.returns-clause-after
@@ -28,7 +28,7 @@ returns-clause-after g c =
     let cmp = g.K.Ord.cmp in let k = c.args.key.now in let l = c.self.inside.leaves in
     elim c.match-find.branch [
       | in-Ok w ↦ view-found-after cmp k l c.args.self.now c.self.view_is c.count_in.result c.match-find.spot.list c.match-find.spot.at c.count_in.ensures g.met.K.Ord.total
-          (subst (λ s. IsFound cmp (joined l.lists) k (position l.lists s.list s.at)) (sym w.spot-is) w.in-Ok.ensures.found) c.self.invariant.ordered
+          (subst (λ s. IsFound (cmp k) (joined l.lists) (position l.lists s.list s.at)) (sym w.spot-is) w.in-Ok.ensures.found) c.self.invariant.ordered
       | in-Err w ↦ view-gap-after cmp k l c.args.self.now c.self.view_is c.count_in.result c.match-find.spot.list c.match-find.spot.at c.count_in.ensures
-          (subst (λ s. IsGap cmp (joined l.lists) k (position l.lists s.list s.at)) (sym w.spot-is) w.in-Err.ensures.absent)
+          (subst (λ s. IsGap (cmp k) (joined l.lists) (position l.lists s.list s.at)) (sym w.spot-is) w.in-Err.ensures.absent)
     ]

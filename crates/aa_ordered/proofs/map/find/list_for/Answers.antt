@@ -12,7 +12,7 @@ loop-high-preserved-in-Less g c =
       apart = omega arith;
       within = omega (arith, c.loop-high.invariant.within);
       before = c.loop-high.invariant.before;
-      after = greater-less g.K.Ord.cmp g.met.K.Ord.total c.args.leaves.now.lists c.requires.ordered c.args.key.now _ h n c.index-list-0.result (rw c.list.ensures.list at (sym c.cmp.ensures ∙ c.in-Less.is));
+      after = greater-less (record { less = g.met.Q.Lookup.less_after c.args.key; equal = g.met.Q.Lookup.like_equal c.args.key }) c.args.leaves.now.lists c.requires.ordered _ h n c.index-list-0.result (rw c.list.ensures.list at (sym c.compare.ensures ∙ c.in-Less.is));
     }
 
 pub loop-high-preserved-in-Equal : goal.loop-high-preserved-in-Equal
@@ -21,7 +21,7 @@ loop-high-preserved-in-Equal g c =
     let n = some-each c.args.leaves.now.lists _ c.requires.balanced h in record {
       apart = omega arith;
       within = c.loop-high.invariant.within;
-      before = less-equal g.K.Ord.cmp g.met.K.Ord.total c.args.leaves.now.lists c.requires.ordered c.args.key.now _ h n c.index-list-0.result (rw c.list.ensures.list at (sym c.cmp.ensures ∙ c.in-Equal.is));
+      before = less-equal (record { less = g.met.Q.Lookup.less_after c.args.key; equal = g.met.Q.Lookup.like_equal c.args.key }) c.args.leaves.now.lists c.requires.ordered _ h n c.index-list-0.result (rw c.list.ensures.list at (sym c.compare.ensures ∙ c.in-Equal.is));
       after = c.loop-high.invariant.after;
     }
 
@@ -31,6 +31,6 @@ loop-high-preserved g c =
     let n = some-each c.args.leaves.now.lists _ c.requires.balanced h in record {
       apart = omega arith;
       within = c.loop-high.invariant.within;
-      before = less-greater g.K.Ord.cmp g.met.K.Ord.total c.args.leaves.now.lists c.requires.ordered c.args.key.now _ h n c.index-list-0.result (rw c.list.ensures.list at (sym c.cmp.ensures ∙ c.in-Greater.is));
+      before = less-greater (record { less = g.met.Q.Lookup.less_after c.args.key; equal = g.met.Q.Lookup.like_equal c.args.key }) c.args.leaves.now.lists c.requires.ordered _ h n c.index-list-0.result (rw c.list.ensures.list at (sym c.compare.ensures ∙ c.in-Greater.is));
       after = c.loop-high.invariant.after;
     }

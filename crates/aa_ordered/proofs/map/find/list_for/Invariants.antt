@@ -8,8 +8,8 @@ abbrev pub invariant-loop-high : goal.invariant-loop-high
 invariant-loop-high g l = record {
   apart : l.low < l.high;
   within : l.high ≤ max (length l.leaves.lists) 1;
-  before : AreLess g.K.Ord.cmp l.key (joined (take l.low l.leaves.lists));
-  after : AreGreater g.K.Ord.cmp l.key (joined (drop l.high l.leaves.lists));
+  before : AreLess (g.Q.Lookup.order l.key) (joined (take l.low l.leaves.lists));
+  after : AreGreater (g.Q.Lookup.order l.key) (joined (drop l.high l.leaves.lists));
 }
 
 abbrev pub decreases-loop-high : goal.decreases-loop-high
