@@ -67,6 +67,6 @@ module _ {T : Type 0} where
 
 pub ruleset full = (run-filled)
 
-pub ruleset transferred = (seen-moved, held-moved)
+pub ruleset transferred = (run-filled, seen-moved, held-moved)
 
 pub ruleset same = (seen-first, held-first)

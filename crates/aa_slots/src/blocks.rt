@@ -76,7 +76,7 @@ fn move_all<T, A: Allocator>(
 }
 
 // Moves all values to other places of the same index, at once if no slot is `free`.
-#[tactic(auto, using(allocator_api2::proofs::Blocks::in_runs, crate::proofs::Growing::full, crate::proofs::Growing::transferred))]
+#[tactic(auto, using(allocator_api2::proofs::Blocks::in_runs, crate::proofs::Growing::transferred))]
 fn move_values<T, A: Allocator>(
     slots: &[Slot],
     from: &mut RawVec<((), T), A>,
